@@ -1,0 +1,86 @@
+-- The worked examples of document 01 that are marked *, in one table: they hold of the definitions by computation.
+use Prim.Native.Nat.{ℕ}
+use mathlib.Core.Path.{_≡_, refl}
+use mathlib.Core.List.{List, [], _∷_, _++_}
+use Rattle.model.specs.Number.{accepted, flowReading, flowTrust, fine, refused, firstBelow}
+use Rattle.model.specs.Bytes.{word, startsWith}
+use Rattle.model.specs.Policy.{policyNumber, headNumber, rowNumber, principalNumber, ownerNumber, pairNumber, grantsNumber, takenNumber, viewers, trusters, members, takes, watchers, mayTake, mayHold}
+use Rattle.model.specs.Meaning.{gather, grown, steps, rounds, meaning, answer, meaningOf}
+use Rattle.model.specs.Mutation.{allowed}
+use Rattle.model.specs.Program.{andThen, readByte, readBelow, readMark, readMany, atomAt, readAtom, readLabel, readQuery, mutationAt, readMutation, binaryAt, exprAt, readExpr, blockOf, assignAt, blockAt, ifAt, whileAt, queryAt, updateAt, transactionAt, stmtAt, readStmt, readBody, readProgram}
+use Rattle.model.specs.Order.{fixedSet, includes, base, atMost, joinAtMost}
+use Rattle.model.specs.Flow.{labelAtom, label, exprLabel, atomLabel, queryLabel, listLabel, assigned, rolesOf, mutated, eachIn, listedIn, allAllowed, mayAssign, mayUpdate, flow, bodyVerdict, programVerdict}
+
+-- mark and version of a policy, of a program
+abbrev rxt : List ℕ
+rxt = 0x52 ∷ 0x58 ∷ 0x54 ∷ 1 ∷ 0 ∷ []
+
+abbrev rxp : List ℕ
+rxp = 0x52 ∷ 0x58 ∷ 0x50 ∷ 1 ∷ 0 ∷ []
+
+-- a row of one-byte sets
+abbrev row : ℕ → ℕ → ℕ → ℕ → ℕ → ℕ → List ℕ
+row owner name seen trusted held taken =
+    owner ∷ name ∷ seen ∷ 0 ∷ 0 ∷ 0 ∷ trusted ∷ 0 ∷ 0 ∷ 0 ∷ held ∷ 0 ∷ 0 ∷ 0 ∷ taken ∷ 0 ∷ 0 ∷ 0 ∷ 0 ∷ 0 ∷ 0 ∷ 0 ∷ []
+
+-- policy E: two principals; one role of owner 0, which both view and trust, with member 0
+abbrev pub policyE : List ℕ
+policyE = rxt ++ 2 ∷ 1 ∷ row 0 1 3 3 1 0
+
+-- policy F: two principals; two roles, which both view and trust; role 0 takes role 1, role 1 has member 1
+abbrev pub policyF : List ℕ
+policyF = rxt ++ 2 ∷ 2 ∷ row 0 1 3 3 0 2 ++ row 1 1 3 3 2 0
+
+-- two principals; one role of owner 0, which only principal 0 views
+abbrev policyOne : List ℕ
+policyOne = rxt ++ 2 ∷ 1 ∷ row 0 1 1 3 0 0
+
+-- v0 for everyone and v1 of role 0, then v1 := v0 + 5
+abbrev pub firstProgram : List ℕ
+firstProgram = rxp ++ 2 ∷ 0xff ∷ 0xff ∷ 0 ∷ 0 ∷ 1 ∷ 1 ∷ 2 ∷ 1 ∷ 0 ∷ 0 ∷ 5 ∷ 0 ∷ 0 ∷ 0 ∷ []
+
+-- the same labels, v0 := v1
+abbrev leakProgram : List ℕ
+leakProgram = rxp ++ 2 ∷ 0xff ∷ 0xff ∷ 0 ∷ 0 ∷ 1 ∷ 0 ∷ 1 ∷ 1 ∷ []
+
+-- only the trust label of v1 is a role
+abbrev trustProgram : List ℕ
+trustProgram = rxp ++ 2 ∷ 0xff ∷ 0xff ∷ 0xff ∷ 0 ∷ 1 ∷ 0 ∷ 1 ∷ 1 ∷ []
+
+-- a transaction that lists a pair and queries it: if it holds, role 0 no longer takes role 1 and v0 := 1; else skip
+abbrev pub changeProgram : ℕ → ℕ → List ℕ
+changeProgram a b =
+    rxp ++ 1 ∷ 0xff ∷ 0xff ∷ 7 ∷ 1 ∷ a ∷ b ∷ 5 ∷ a ∷ b ∷ 2 ∷ 2 ∷ 6 ∷ 1 ∷ 3 ∷ 0 ∷ 1 ∷ 1 ∷ 0 ∷ 0 ∷ 1 ∷ 0 ∷ 0 ∷ 0 ∷ 0 ∷ []
+
+-- a query that names role 0, and in it v0 := 0
+abbrev queryProgram : List ℕ
+queryProgram = rxp ++ 1 ∷ 0xff ∷ 0xff ∷ 7 ∷ 1 ∷ 0xff ∷ 0 ∷ 5 ∷ 0xff ∷ 0 ∷ 1 ∷ 0 ∷ 0 ∷ 0 ∷ 0 ∷ 0 ∷ 0 ∷ 0 ∷ []
+
+pub record WorkedExamples : Type 0 where
+  -- E is accepted, and role 0 means {0}
+  pub policy-E : policyNumber policyE ≡ accepted
+  pub meaning-E : meaningOf policyE 0 ≡ answer 0 1
+  -- the first program under E is accepted
+  pub first-accepted : programVerdict policyE firstProgram ≡ fine
+  -- v0 := v1 is 17; with only the trust label a role, 18
+  pub reading-refused : programVerdict policyE leakProgram ≡ refused flowReading 10
+  pub trust-refused : programVerdict policyE trustProgram ≡ refused flowTrust 10
+  -- the programs of policy F are accepted
+  pub change-accepted : programVerdict policyF (changeProgram 0 1) ≡ fine
+  pub reversed-accepted : programVerdict policyF (changeProgram 1 0) ≡ fine
+  -- a query on a role viewed by principal 0 only, then an assignment for everyone inside it, is 17
+  pub query-refused : programVerdict policyOne queryProgram ≡ refused flowReading 15
+
+pub worked-examples : WorkedExamples
+unfolding firstBelow word startsWith policyNumber headNumber rowNumber principalNumber ownerNumber pairNumber grantsNumber takenNumber viewers trusters members takes watchers mayTake mayHold gather grown steps rounds meaning meaningOf allowed andThen readByte readBelow readMark readMany atomAt readAtom readLabel readQuery mutationAt readMutation binaryAt exprAt readExpr blockOf assignAt blockAt ifAt whileAt queryAt updateAt transactionAt stmtAt readStmt readBody readProgram fixedSet includes base atMost joinAtMost labelAtom label exprLabel atomLabel queryLabel listLabel assigned rolesOf mutated eachIn listedIn allAllowed mayAssign mayUpdate flow bodyVerdict programVerdict
+worked-examples =
+    record {
+      policy-E = refl;
+      meaning-E = refl;
+      first-accepted = refl;
+      reading-refused = refl;
+      trust-refused = refl;
+      change-accepted = refl;
+      reversed-accepted = refl;
+      query-refused = refl;
+    }

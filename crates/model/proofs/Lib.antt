@@ -1,0 +1,11 @@
+pub mod Below
+pub mod Number
+pub mod Sets
+pub mod Bytes
+pub mod Accepted
+pub mod Fixed
+pub mod Enough
+pub mod Least
+pub mod Meaning
+pub mod Mutation
+pub mod Examples

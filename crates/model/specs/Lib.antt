@@ -1,0 +1,11 @@
+pub mod Number
+pub mod Sets
+pub mod Bytes
+pub mod Policy
+pub mod Meaning
+pub mod Mutation
+pub mod Syntax
+pub mod Program
+pub mod Order
+pub mod Flow
+pub mod Atoms

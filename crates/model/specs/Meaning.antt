@@ -1,0 +1,50 @@
+-- The meaning of a role: the least sets where each role holds its members and all that the roles it takes hold.
+use Prim.Native.Nat.{ℕ, zero, suc, _<_}
+use mathlib.Core.Path.{_≡_}
+use mathlib.Core.List.{List, [], _∷_}
+use mathlib.Core.Bool.{Bool, true, false, cond}
+use lib.Dec.{eqb, ltb}
+use lib.ListN.{length, getD, set, replicate}
+use lib.Bits.{bitOr}
+use Rattle.model.specs.Number.{accepted, noSuchRole}
+use Rattle.model.specs.Sets.{has}
+use Rattle.model.specs.Policy.{roles, members, takes, policyNumber}
+
+-- sets are closed when each role holds its members and all that the roles it takes hold
+pub record Closed (s : List ℕ) (Holds : ℕ → ℕ → Type 0) : Type 0 where
+  pub own : (r p : ℕ) → r < roles s → has (members s r) p ≡ true → Holds r p
+  pub taken : (r j p : ℕ) → r < roles s → j < roles s → has (takes s r) j ≡ true → Holds j p → Holds r p
+
+-- the union of the sets in w of those of the first n roles that are in row
+unfoldable pub gather : List ℕ → ℕ → ℕ → ℕ
+gather w row zero = 0
+gather w row (suc n) = cond (has row n) (bitOr (gather w row n) (getD w n 0)) (gather w row n)
+
+-- what role i holds once it has its members and what its taken roles hold in w
+unfoldable pub grown : List ℕ → List ℕ → ℕ → ℕ
+grown s w i = bitOr (bitOr (getD w i 0) (members s i)) (gather w (takes s i) (roles s))
+
+-- the first n rows grown in turn, in place; a round is all rows
+unfoldable pub steps : List ℕ → List ℕ → ℕ → List ℕ
+steps s w zero = w
+steps s w (suc n) = set (steps s w n) n (grown s (steps s w n) n)
+
+-- n rounds from empty sets
+unfoldable pub rounds : List ℕ → ℕ → List ℕ
+rounds s zero = replicate (roles s) 0
+rounds s (suc n) = steps s (rounds s n) (roles s)
+
+-- the meaning of role r: after as many rounds as there are roles nothing is left to add
+unfoldable pub meaning : List ℕ → ℕ → ℕ
+meaning s r = getD (rounds s (roles s)) r 0
+
+-- what asking for a meaning gives: a number and the meaning's bits
+pub data Answer : Type 0 where
+  answer : ℕ → ℕ → Answer
+
+-- the policy's number, then 7 for a role that there is not; the bits are 0 at any refusal
+unfoldable pub meaningOf : List ℕ → ℕ → Answer
+meaningOf s r =
+    cond (eqb (policyNumber s) accepted)
+    (cond (ltb r (roles s)) (answer accepted (meaning s r)) (answer noSuchRole 0))
+    (answer (policyNumber s) 0)

@@ -1,0 +1,262 @@
+-- A law for each return of check.rt: the tests that led there say which number the definition gives.
+use mathlib.Core.Path.{_≡_, refl, sym, ap, _∙_}
+use Prim.Native.Nat.{ℕ, zero, suc, _+_, _*_, _-_, _^_, _<_, _≤_}
+use mathlib.Core.List.{List, [], _∷_}
+use mathlib.Core.Bool.{Bool, true, false}
+use native.Mathlib.Omega.{arith}
+use native.Mathlib.Numerals.{add-one}
+use lib.Dec.{ltb}
+use lib.ListN.{length}
+use borrow.Author.Tests.{lt-ltb, le-ltb, le-leb, lt-leb, eq-eqb, ne-eqb, not-true, not-false}
+use Rattle.model.specs.Number.{first, firstBelow}
+use Rattle.model.specs.Sets.{has, within}
+use Rattle.model.specs.Bytes.{byte, startsWith}
+use Rattle.model.specs.Policy.{policyHead, principals, roles, rowAt, owner, name, viewers, trusters, members, takes, mayTake, headNumber, principalNumber, ownerNumber, pairNumber, rowNumber, takenNumber, grantsNumber, policyNumber}
+use Rattle.model.proofs.Accepted.{head-zero}
+
+-- the head
+module _ (s : List ℕ) where
+  pub head-short : length s < 7 → 1 ≡ headNumber s
+  unfolding headNumber
+  head-short h = simp (lt-leb _ _ h)
+
+  module _ (long : 7 ≤ length s) (b : Bool) (e : b ≡ startsWith s policyHead) where
+    pub head-mark : b ≡ false → 2 ≡ headNumber s
+    unfolding headNumber
+    head-mark f = simp (le-leb _ _ long, sym e ∙ f)
+
+    module _ (t : b ≡ true) where
+      pub head-none : principals s < 1 → 3 ≡ headNumber s
+      unfolding headNumber
+      head-none h = simp (le-leb _ _ long, sym e ∙ t, lt-leb _ _ h)
+
+      module _ (some : 1 ≤ principals s) where
+        pub head-principals : 32 < principals s → 3 ≡ headNumber s
+        unfolding headNumber
+        head-principals h = simp (le-leb _ _ long, sym e ∙ t, le-leb _ _ some, lt-leb _ _ h)
+
+        module _ (fit : principals s ≤ 32) where
+          pub head-roles : 64 < roles s → 3 ≡ headNumber s
+          unfolding headNumber
+          head-roles h = simp (le-leb _ _ long, sym e ∙ t, le-leb _ _ some, le-leb _ _ fit, lt-leb _ _ h)
+
+          module _ (few : roles s ≤ 64) (n : ℕ) (i : n ≡ roles s) where
+            pub head-length : (length s ≡ 7 + 22 * n → ⊥) → 1 ≡ headNumber s
+            unfolding headNumber
+            head-length h = let g : length s ≡ 7 + 22 * roles s → ⊥ = rw i at h in simp (le-leb _ _ long, sym e ∙ t, le-leb _ _ some, le-leb _ _ fit, le-leb _ _ few, ne-eqb _ _ g)
+
+            pub head-right : length s ≡ 7 + 22 * n → 0 ≡ headNumber s
+            unfolding headNumber
+            head-right h = let g : length s ≡ 7 + 22 * roles s = rw i at h in simp (le-leb _ _ long, sym e ∙ t, le-leb _ _ some, le-leb _ _ fit, le-leb _ _ few, eq-eqb _ _ g)
+
+pub ruleset heads = (head-short, head-mark, head-none, head-principals, head-roles, head-length, head-right, not-true, not-false)
+
+-- 4 of row i: the bound n is P, and v, t, m are what was read of the row
+module _ (s : List ℕ) (i : ℕ) where
+  pub owner-large : principals s ≤ owner s i → 4 ≡ principalNumber s i
+  unfolding principalNumber
+  owner-large h = simp (le-ltb _ _ h)
+
+  module _ (small : owner s i < principals s) (n v : ℕ) (a : Bool) (p : n ≡ principals s) (q : v ≡ viewers s i) (d : a ≡ ltb v (2 ^ n)) where
+    seen : ltb (viewers s i) (2 ^ principals s) ≡ a
+    seen = rw (← p, ← q) (sym d)
+
+    pub viewers-large : a ≡ false → 4 ≡ principalNumber s i
+    unfolding principalNumber
+    viewers-large f = simp (lt-ltb _ _ small, seen ∙ f)
+
+    module _ (t : a ≡ true) (w : ℕ) (b : Bool) (j : w ≡ trusters s i) (e : b ≡ ltb w (2 ^ n)) where
+      trusted : ltb (trusters s i) (2 ^ principals s) ≡ b
+      trusted = rw (← p, ← j) (sym e)
+
+      pub trusters-large : b ≡ false → 4 ≡ principalNumber s i
+      unfolding principalNumber
+      trusters-large f = simp (lt-ltb _ _ small, seen ∙ t, trusted ∙ f)
+
+      module _ (u : b ≡ true) (m : ℕ) (x : Bool) (k : m ≡ members s i) (g : x ≡ ltb m (2 ^ n)) where
+        held : ltb (members s i) (2 ^ principals s) ≡ x
+        held = rw (← p, ← k) (sym g)
+
+        pub members-large : x ≡ false → 4 ≡ principalNumber s i
+        unfolding principalNumber
+        members-large f = simp (lt-ltb _ _ small, seen ∙ t, trusted ∙ u, held ∙ f)
+
+        pub principals-right : x ≡ true → 0 ≡ principalNumber s i
+        unfolding principalNumber
+        principals-right f = simp (lt-ltb _ _ small, seen ∙ t, trusted ∙ u, held ∙ f)
+
+pub ruleset principal-laws = (owner-large, viewers-large, trusters-large, members-large, principals-right, not-true, not-false)
+
+-- 5 of row i: its owner
+module _ (s : List ℕ) (i o v : ℕ) (a : Bool) (p : o ≡ owner s i) (q : v ≡ viewers s i) (d : a ≡ has v o) where
+  views : has (viewers s i) (owner s i) ≡ a
+  views = rw (← p, ← q) (sym d)
+
+  pub owner-hidden : a ≡ false → 5 ≡ ownerNumber s i
+  unfolding ownerNumber
+  owner-hidden f = simp (views ∙ f)
+
+  module _ (t : a ≡ true) (w : ℕ) (b : Bool) (j : w ≡ trusters s i) (e : b ≡ has w o) where
+    trusts : has (trusters s i) (owner s i) ≡ b
+    trusts = rw (← p, ← j) (sym e)
+
+    pub owner-distrusted : b ≡ false → 5 ≡ ownerNumber s i
+    unfolding ownerNumber
+    owner-distrusted f = simp (views ∙ t, trusts ∙ f)
+
+    pub owner-right : b ≡ true → 0 ≡ ownerNumber s i
+    unfolding ownerNumber
+    owner-right f = simp (views ∙ t, trusts ∙ f)
+
+pub ruleset owner-laws = (owner-hidden, owner-distrusted, owner-right, not-true, not-false)
+
+-- 5 of row i: its owner and name against row j's
+module _ (s : List ℕ) (i j : ℕ) where
+  pub owners-differ : (owner s i ≡ owner s j → ⊥) → 0 ≡ pairNumber s i j
+  unfolding pairNumber
+  owners-differ h = simp (ne-eqb _ _ h)
+
+  module _ (e : owner s i ≡ owner s j) where
+    pub names-differ : (name s i ≡ name s j → ⊥) → 0 ≡ pairNumber s i j
+    unfolding pairNumber
+    names-differ h = simp (eq-eqb _ _ e, ne-eqb _ _ h)
+
+    pub pair-same : name s i ≡ name s j → 5 ≡ pairNumber s i j
+    unfolding pairNumber
+    pair-same h = simp (eq-eqb _ _ e, eq-eqb _ _ h)
+
+pub ruleset pair-laws = (owners-differ, names-differ, pair-same)
+
+-- a loop that looks for the first number that is not 0
+module _ (f : ℕ → ℕ) where
+  stays : (n d k : ℕ) → firstBelow f n ≡ k → (k ≡ 0 → ⊥) → firstBelow f (d + n) ≡ k
+  unfolding firstBelow
+  stays n zero k e h = let q : 0 + n ≡ n = omega arith in rw q e
+  stays n (suc d) k e h = let q : suc d + n ≡ suc (d + n) = omega arith in rw (q, stays n d k e h) (simp (ne-eqb _ _ h))
+
+  pub below-none : firstBelow f 0 ≡ 0
+  unfolding firstBelow
+  below-none = refl
+
+  pub below-next : (i k : ℕ) → firstBelow f i ≡ 0 → k ≡ f i → k ≡ 0 → firstBelow f (i + 1) ≡ 0
+  unfolding firstBelow
+  below-next i k e g h = rw (add-one i, e, ← g, h)
+
+  at-found : (i k : ℕ) → firstBelow f i ≡ 0 → k ≡ f i → firstBelow f (suc i) ≡ k
+  unfolding firstBelow
+  at-found i k e g = rw (e, ← g)
+
+  pub below-found : (n i k : ℕ) → firstBelow f i ≡ 0 → i < n → k ≡ f i → (k ≡ 0 → ⊥) → k ≡ firstBelow f n
+  below-found n i k e l g h = let q : (n - suc i) + suc i ≡ n = omega arith in sym (rw q at (stays (suc i) (n - suc i) k (at-found i k e g) h))
+
+  pub below-done : (n i : ℕ) → firstBelow f i ≡ 0 → i ≤ n → n ≤ i → 0 ≡ firstBelow f n
+  below-done n i e g h = let q : i ≡ n = omega arith in rw (← q) (sym e)
+
+pub ruleset loops = (below-none, below-next, below-found, below-done)
+
+-- the first number that is not 0, of two
+first-is : (a b k : ℕ) → a ≡ k → (k ≡ 0 → ⊥) → k ≡ first a b
+first-is a b k e h = rw e (simp (ne-eqb _ _ h))
+
+first-not : (a b k : ℕ) → a ≡ 0 → b ≡ k → k ≡ first a b
+first-not a b k e h = rw (e, h)
+
+module _ (s : List ℕ) (i a : ℕ) (p : a ≡ principalNumber s i) where
+  pub row-principal : (a ≡ 0 → ⊥) → a ≡ rowNumber s i
+  unfolding rowNumber
+  row-principal h = first-is _ _ a (sym p) h
+
+  module _ (z : a ≡ 0) (b : ℕ) (q : b ≡ ownerNumber s i) where
+    pub row-owner : (b ≡ 0 → ⊥) → b ≡ rowNumber s i
+    unfolding rowNumber
+    row-owner h = first-not _ _ b (sym p ∙ z) (sym (first-is _ _ b (sym q) h))
+
+    pub row-pair : b ≡ 0 → (k : ℕ) → k ≡ firstBelow (pairNumber s i) i → k ≡ rowNumber s i
+    unfolding rowNumber
+    row-pair y k e = first-not _ _ k (sym p ∙ z) (sym (first-not _ _ k (sym q ∙ y) (sym e)))
+
+pub ruleset row-laws = (row-principal, row-owner, row-pair)
+
+-- 6 of row i: one taken role. `b` is the test of the bit; v, w and t, u are the viewers and trusters of both rows
+module _ (s : List ℕ) (i j row : ℕ) (b : Bool) (p : row ≡ takes s i) (d : b ≡ has row j) where
+  taken : has (takes s i) j ≡ b
+  taken = rw (← p) (sym d)
+
+  pub taken-not : b ≡ false → 0 ≡ takenNumber s i j
+  unfolding takenNumber
+  taken-not f = simp (taken ∙ f)
+
+  module _ (g : b ≡ true) (v w : ℕ) (q : v ≡ viewers s i) (e : w ≡ viewers s j) where
+    pub taken-viewers : (v ≡ w → ⊥) → 6 ≡ takenNumber s i j
+    unfolding takenNumber mayTake
+    taken-viewers h = let k : viewers s i ≡ viewers s j → ⊥ = λ x. h (q ∙ x ∙ sym e) in simp (taken ∙ g, ne-eqb _ _ k)
+
+    module _ (h : v ≡ w) (t u : ℕ) (x : t ≡ trusters s i) (y : u ≡ trusters s j) where
+      pub taken-trusters : (t ≡ u → ⊥) → 6 ≡ takenNumber s i j
+      unfolding takenNumber mayTake
+      taken-trusters k = let l : trusters s i ≡ trusters s j → ⊥ = λ z. k (x ∙ z ∙ sym y) in simp (taken ∙ g, eq-eqb _ _ (sym q ∙ h ∙ e), ne-eqb _ _ l)
+
+      pub taken-right : t ≡ u → 0 ≡ takenNumber s i j
+      unfolding takenNumber mayTake
+      taken-right k = simp (taken ∙ g, eq-eqb _ _ (sym q ∙ h ∙ e), eq-eqb _ _ (sym x ∙ k ∙ y))
+
+pub ruleset taken-laws = (taken-not, taken-viewers, taken-trusters, taken-right, not-true, not-false)
+
+-- 6 of row i
+module _ (s : List ℕ) (i m v : ℕ) (a : Bool) (p : m ≡ members s i) (q : v ≡ viewers s i) (d : a ≡ within m v) where
+  viewed : within (members s i) (viewers s i) ≡ a
+  viewed = rw (← p, ← q) (sym d)
+
+  pub members-hidden : a ≡ false → 6 ≡ grantsNumber s i
+  unfolding grantsNumber
+  members-hidden f = simp (viewed ∙ f)
+
+  module _ (g : a ≡ true) (t : ℕ) (b : Bool) (j : t ≡ trusters s i) (e : b ≡ within m t) where
+    trusting : within (members s i) (trusters s i) ≡ b
+    trusting = rw (← p, ← j) (sym e)
+
+    pub members-distrusted : b ≡ false → 6 ≡ grantsNumber s i
+    unfolding grantsNumber
+    members-distrusted f = simp (viewed ∙ g, trusting ∙ f)
+
+    module _ (h : b ≡ true) (n row : ℕ) (c : Bool) (k : n ≡ roles s) (x : row ≡ takes s i) (y : c ≡ ltb row (2 ^ n)) where
+      below : ltb (takes s i) (2 ^ roles s) ≡ c
+      below = rw (← k, ← x) (sym y)
+
+      pub takes-large : c ≡ false → 6 ≡ grantsNumber s i
+      unfolding grantsNumber
+      takes-large f = simp (viewed ∙ g, trusting ∙ h, below ∙ f)
+
+      pub takes-rest : c ≡ true → (r : ℕ) → r ≡ firstBelow (takenNumber s i) n → r ≡ grantsNumber s i
+      unfolding grantsNumber
+      takes-rest f r z = simp (viewed ∙ g, trusting ∙ h, below ∙ f) (rw k at z)
+
+pub ruleset grants-laws = (members-hidden, members-distrusted, takes-large, takes-rest, not-true, not-false)
+
+-- the whole policy
+module _ (s : List ℕ) (a : ℕ) (p : a ≡ headNumber s) where
+  pub policy-head : (a ≡ 0 → ⊥) → a ≡ policyNumber s
+  unfolding policyNumber
+  policy-head h = first-is _ _ a (sym p) h
+
+  module _ (z : a ≡ 0) where
+    -- a right head has the length that its roles ask for
+    right-length : length s ≡ rowAt (roles s)
+    right-length = head-zero s (sym p ∙ z) .4
+
+    pub head-seven : 6 < length s
+    head-seven = omega (arith, right-length)
+
+    pub head-rows : (n : ℕ) → n ≡ roles s → rowAt n ≤ length s
+    head-rows n e = omega (arith, right-length)
+
+    module _ (n : ℕ) (e : n ≡ roles s) (b : ℕ) (q : b ≡ firstBelow (rowNumber s) n) where
+      pub policy-rows : (b ≡ 0 → ⊥) → b ≡ policyNumber s
+      unfolding policyNumber
+      policy-rows h = first-not _ _ b (sym p ∙ z) (sym (first-is _ _ b (sym (rw e at q)) h))
+
+      pub policy-grants : b ≡ 0 → (k : ℕ) → k ≡ firstBelow (grantsNumber s) n → k ≡ policyNumber s
+      unfolding policyNumber
+      policy-grants y k g = first-not _ _ k (sym p ∙ z) (sym (first-not _ _ k (sym (rw e at q) ∙ y) (sym (rw e at g))))
+
+pub ruleset policy-laws = (policy-head, head-seven, head-rows, policy-rows, policy-grants)

@@ -1,0 +1,5 @@
+mod SetLaws
+mod ByteLaws
+mod RowLaws
+mod CheckLaws
+mod MeaningLaws

@@ -1,0 +1,164 @@
+-- A law for each return and each turn of meaning.rt: what a loop has done so far is what the definition says of as many steps.
+use mathlib.Core.Path.{_≡_, refl, sym, ap, _∙_}
+use Prim.Native.Nat.{ℕ, zero, suc, _+_, _-_, _<_, _≤_}
+use mathlib.Core.List.{List, [], _∷_}
+use mathlib.Core.Bool.{Bool, true, false, true≢false}
+use native.Mathlib.Omega.{arith}
+use native.Mathlib.Numerals.{add-one}
+use lib.Bits.{bitOr}
+use lib.ListN.{length, getD, set, take, replicate, length-set, length-replicate}
+use lib.Seq.{set-getD}
+use borrow.Author.Tests.{lt-ltb, le-ltb, eq-eqb, ne-eqb}
+use Rattle.model.specs.Sets.{has}
+use Rattle.model.specs.Policy.{roles, rowAt, members, takes, policyNumber}
+use Rattle.model.specs.Meaning.{gather, grown, steps, rounds, meaning, answer, meaningOf}
+use Rattle.model.proofs.Accepted.{accepted-facts}
+use Rattle.policy.specs.Still.{Still}
+
+-- the union over the roles in row, role by role
+module _ (w : List ℕ) (row j u : ℕ) (e : u ≡ gather w row j) where
+  pub joined-in : (b : Bool) → b ≡ has row j → b ≡ true → bitOr u (getD w j 0) ≡ gather w row (j + 1)
+  unfolding gather
+  joined-in b d h = rw (add-one j) (simp (sym d ∙ h) (ap (λ (n : ℕ). bitOr n (getD w j 0)) e))
+
+  pub joined-out : (b : Bool) → b ≡ has row j → b ≡ false → u ≡ gather w row (j + 1)
+  unfolding gather
+  joined-out b d h = rw (add-one j) (simp (sym d ∙ h) e)
+
+  pub union-done : j ≤ length w → length w ≤ j → u ≡ gather w row (length w)
+  union-done h g = let n : j ≡ length w = omega arith in rw (← n) e
+
+pub union-none : (w : List ℕ) (row : ℕ) → 0 ≡ gather w row 0
+unfolding gather
+union-none w row = refl
+
+pub ruleset unions = (joined-in, joined-out, union-done, union-none)
+
+-- a round, row by row
+module _ (s old : List ℕ) where
+  pub length-steps : (i : ℕ) → length (steps s old i) ≡ length old
+  unfolding steps
+  length-steps zero = refl
+  length-steps (suc i) = simp length-set (length-steps i)
+
+  pub steps-none : old ≡ steps s old 0
+  unfolding steps
+  steps-none = refl
+
+  pub steps-more : (w : List ℕ) (i m t u : ℕ) → w ≡ steps s old i → length w ≡ roles s → m ≡ members s i → t ≡ takes s i → u ≡ gather w t (length w)
+      → set w i (bitOr (bitOr (getD w i 0) m) u) ≡ steps s old (i + 1)
+  unfolding steps grown
+  steps-more w i m t u e l p q g = rw (g, p, q, l, e, add-one i)
+
+  pub steps-done : (w : List ℕ) (i : ℕ) → w ≡ steps s old i → length w ≡ roles s → i ≤ length w → length w ≤ i → w ≡ steps s old (roles s)
+  steps-done w i e l h g = let n : i ≡ roles s = omega arith in e ∙ rw n
+
+-- whether a set grew
+pub still-none : (w : List ℕ) → Still false w w
+unfolding Still
+still-none w e = refl
+
+pub still-not : (old w : List ℕ) (b : Bool) → b ≡ true → Still b old w
+unfolding Still
+still-not old w b h e = absurd (true≢false (sym h ∙ e))
+
+pub still-same : (old w : List ℕ) (b b′ : Bool) (i x : ℕ) → Still b old w → b′ ≡ b → x ≡ getD w i 0 → Still b′ old (set w i x)
+unfolding Still
+still-same old w b b′ i x s g e f = rw e (set-getD w i 0 ∙ s (sym g ∙ f))
+
+pub ruleset round-laws = (steps-none, steps-more, steps-done, still-none, still-not, still-same)
+
+-- the rounds
+module _ (s : List ℕ) where
+  pub rounds-none : (w : List ℕ) → w ≡ replicate (roles s) 0 → w ≡ rounds s 0
+  unfolding rounds
+  rounds-none w e = e
+
+  rounds-length : (n : ℕ) → length (rounds s n) ≡ roles s
+  unfolding rounds
+  rounds-length zero = length-replicate (roles s) 0
+  rounds-length (suc n) = length-steps s (rounds s n) (roles s) ∙ rounds-length n
+
+  pub length-rounds : (w : List ℕ) (n : ℕ) → w ≡ rounds s n → length w ≡ roles s
+  length-rounds w n e = ap length e ∙ rounds-length n
+
+  pub rounds-more : (w u : List ℕ) (n : ℕ) → w ≡ rounds s n → u ≡ steps s w (roles s) → u ≡ rounds s (n + 1)
+  unfolding rounds
+  rounds-more w u n e g = rw (g, e, add-one n)
+
+  pub rounds-below : (w u : List ℕ) (n : ℕ) → w ≡ rounds s n → u ≡ steps s w (roles s) → n < length w → n + 1 ≤ length u
+  rounds-below w u n e g h = rw g (omega (arith, length-steps s w (roles s)))
+
+  pub rounds-done : (w : List ℕ) (n : ℕ) → w ≡ rounds s n → n ≤ length w → length w ≤ n → w ≡ rounds s (roles s)
+  rounds-done w n e h g = let k : n ≡ roles s = omega (arith, length-rounds w n e) in e ∙ rw k
+
+  stays : (w : List ℕ) (n k : ℕ) → w ≡ rounds s n → w ≡ steps s w (roles s) → w ≡ rounds s (k + n)
+  unfolding rounds
+  stays w n zero e f = let q : 0 + n ≡ n = omega arith in rw q e
+  stays w n (suc k) e f = let q : suc k + n ≡ suc (k + n) = omega arith in rw q (f ∙ ap (λ (l : List ℕ). steps s l (roles s)) (stays w n k e f))
+
+  pub rounds-still : (w u : List ℕ) (n : ℕ) (b : Bool) → w ≡ rounds s n → n ≤ length w → u ≡ steps s w (roles s) → Still b w u → b ≡ false → u ≡ rounds s (roles s)
+  unfolding Still
+  rounds-still w u n b e h g t f =
+      let k : (roles s - n) + n ≡ roles s = omega (arith, length-rounds w n e) in
+      t f ∙ stays w n (roles s - n) e (sym (t f) ∙ g) ∙ rw k
+
+  pub rounds-meaning : (w : List ℕ) (r : ℕ) → w ≡ rounds s (roles s) → getD w r 0 ≡ meaning s r
+  unfolding meaning
+  rounds-meaning w r e = ap (λ (l : List ℕ). getD l r 0) e
+
+  pub rounds-inside : (w : List ℕ) (r : ℕ) → w ≡ rounds s (roles s) → r < roles s → r < length w
+  rounds-inside w r e h = omega (arith, length-rounds w (roles s) e)
+
+pub ruleset rounds-laws = (rounds-none, length-rounds, rounds-more, rounds-below, rounds-done, rounds-still)
+
+pub ruleset least-laws = (rounds-meaning, rounds-inside)
+
+-- the part of 64 empty sets that a policy's roles need
+abbrev pub empties : ℕ → List ℕ
+empties n = replicate n 0
+
+take-zeros : (n m : ℕ) → n ≤ m → take n (empties m) ≡ empties n
+take-zeros zero m h = refl
+take-zeros (suc n) zero h = absurd (omega arith)
+take-zeros (suc n) (suc m) h = ap (λ (l : List ℕ). 0 ∷ l) (take-zeros n m (omega arith))
+
+pub zeros-count : (n : ℕ) → n ≤ 64 → n ≡ length (take n (empties 64))
+zeros-count n h = sym (ap length (take-zeros n 64 h) ∙ length-replicate n 0)
+
+pub zeros-length : (n k : ℕ) → n ≤ 64 → n ≡ k → length (take n (empties 64)) ≡ k
+zeros-length n k h e = sym (zeros-count n h) ∙ e
+
+pub zeros-are : (n k : ℕ) → n ≤ 64 → n ≡ k → take n (empties 64) ≡ empties k
+zeros-are n k h e = take-zeros n 64 h ∙ rw e
+
+-- asking for a meaning
+module _ (s : List ℕ) (r k : ℕ) (p : k ≡ policyNumber s) where
+  pub asked-refused : (k ≡ 0 → ⊥) → answer k 0 ≡ meaningOf s r
+  unfolding meaningOf
+  asked-refused h = let g : policyNumber s ≡ 0 → ⊥ = λ e. h (p ∙ e) in rw p (simp (ne-eqb _ _ g))
+
+  module _ (z : k ≡ 0) where
+    -- an accepted policy has all its rows, 64 at the most
+    long : length s ≡ rowAt (roles s)
+    long = accepted-facts s (sym p ∙ z) .long
+
+    pub asked-seven : 6 < length s
+    asked-seven = omega (arith, long)
+
+    pub asked-rows : rowAt (roles s) ≤ length s
+    asked-rows = omega (arith, long)
+
+    pub asked-few : (n : ℕ) → n ≡ roles s → n ≤ 64
+    asked-few n e = omega (arith, accepted-facts s (sym p ∙ z) .roles-fit)
+
+    module _ (n : ℕ) (e : n ≡ roles s) where
+      pub asked-none : n ≤ r → answer 7 0 ≡ meaningOf s r
+      unfolding meaningOf
+      asked-none h = let l : roles s ≤ r = omega arith in simp (eq-eqb _ _ (sym p ∙ z), le-ltb _ _ l)
+
+      pub asked-found : r < n → (x : ℕ) → x ≡ meaning s r → answer 0 x ≡ meaningOf s r
+      unfolding meaningOf
+      asked-found h x y = let l : r < roles s = omega arith in rw y (simp (eq-eqb _ _ (sym p ∙ z), lt-ltb _ _ l))
+
+pub ruleset asked = (asked-refused, asked-seven, asked-rows, asked-few, asked-none, asked-found, zeros-count, zeros-length, zeros-are)

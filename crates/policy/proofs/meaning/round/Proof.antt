@@ -1,0 +1,47 @@
+use native.Mathlib.Omega.{arith}
+use mathlib.Core.Logic.{⊎-elim}
+use Rattle.policy.specs.Still.{Still}
+use Rattle.model.specs.Policy.{roles}
+use lib.ListN.{length, length-set}
+use Rattle.model.specs.Meaning.{steps}
+use Prim.Native.Nat.{ℕ, _≤_, _-_, _+_}
+use mathlib.Core.Path.{_≡_}
+use Rattle.policy.proofs.MeaningLaws.{round-laws}
+use borrow.Author.Needs.{needs}
+use Rattle.policy.proofs.meaning.round.Statement.{statement}
+use Rattle.policy.proofs.meaning.round.Tie as tie
+use Rattle.policy.proofs.meaning.round.Reads as reads
+use Rattle.policy.proofs.meaning.round.Lts as lts
+use Rattle.policy.proofs.meaning.union_of.Reads as union-of-reads
+use Rattle.policy.proofs.rows.members_of.Reads as members-of-reads
+use Rattle.policy.proofs.rows.takes_of.Reads as takes-of-reads
+
+abbrev Inv-loop : tie.InvT-loop
+Inv-loop s sets₀ grew₀ i₀ sets grew i = (i ≤ length sets) × ((length sets ≡ roles s) × ((sets ≡ steps s sets₀ i) × Still grew sets₀ sets))
+
+abbrev μ-loop : tie.MeasureT-loop
+μ-loop s sets₀ grew₀ i₀ sets grew i = length sets₀ - i
+
+-- src/meaning.rt:52:5
+loop-again : tie.Need-loop-again Inv-loop μ-loop
+loop-again c = (simp length-set (omega arith), (simp length-set (omega arith), (search (needs, round-laws), ⊎-elim (λ w. search (needs, round-laws)) (λ w. search (needs, round-laws)) (c .if1 .came))))
+
+pub round-spec : {M : Type 1} → statement M
+round-spec =
+    tie.close
+    (tie.spec
+    Inv-loop
+    μ-loop
+    (λ c. search (needs, round-laws))
+    (λ c. search needs)
+    (λ c. search needs)
+    (λ c κs. search needs)
+    (λ c κs. search needs)
+    (λ c κs. search needs)
+    (λ c. search needs)
+    (λ c. search needs)
+    (λ c. search needs)
+    (λ c. search needs)
+    loop-again
+    (λ c. search needs)
+    (λ c. search (needs, round-laws)))

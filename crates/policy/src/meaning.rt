@@ -1,0 +1,110 @@
+// The meaning of a role: the least sets where each role holds its members and all that the roles it takes hold.
+ghost use mathlib.Core.Path.{_≡_};
+ghost use Prim.Native.Nat.{ℕ, _+_, _<_, _≤_};
+ghost use lib.ListN.{length, replicate};
+ghost use Rattle.model.specs.Policy.{roles, rowAt};
+ghost use Rattle.model.specs.Meaning.{gather, grown, steps, rounds, meaning, answer, meaningOf};
+ghost use Rattle.policy.specs.Still.{Still};
+use super::bytes;
+use super::check;
+use super::number;
+use super::rows;
+use super::sets;
+
+// What asking for a meaning gives: document 01's number, and the meaning's bits, 0 at any refusal.
+pub struct Meaning {
+    pub number: u32,
+    pub bits: u32,
+}
+
+// The union of the sets of the roles in `row`.
+fn union_of(sets: &[u32], row: u64) -> u32
+    ensures { λ r. ⌜ r ≡ gather (now (sets .entry)) row (length (now (sets .entry))) ⌝ }
+{
+    let mut union = 0;
+    let mut j = 0;
+    while j < sets.len() {
+        union = joined(sets, row, j, union);
+        j += 1;
+    }
+    union
+}
+
+// `union` with the set of role j, where j is in `row`.
+fn joined(sets: &[u32], row: u64, j: usize, union: u32) -> u32
+    requires { ⌜ (j < length (now sets)) × (union ≡ gather (now sets) row j) ⌝ }
+    ensures { λ r. ⌜ r ≡ gather (now (sets .entry)) row (j + 1) ⌝ }
+{
+    if sets::contains(row, j as u64) {
+        return union | sets[j];
+    }
+    union
+}
+
+// One round over all rows, in place. False when no set grew.
+fn round(s: &[u8], sets: &mut [u32]) -> bool
+    requires { ⌜ (length (now sets) ≡ roles (now s)) × (rowAt (roles (now s)) ≤ length (now s)) ⌝ }
+    ensures now_sets { λ r. ⌜ now (sets .exit) ≡ steps (now (s .entry)) (now (sets .entry)) (roles (now (s .entry))) ⌝ }
+    ensures still { λ r. ⌜ Still r (now (sets .entry)) (now (sets .exit)) ⌝ }
+{
+    let mut grew = false;
+    let mut i = 0;
+    while i < sets.len() {
+        let old = sets[i];
+        let new = old | rows::members_of(s, i) | union_of(sets, rows::takes_of(s, i));
+        sets[i] = new;
+        if new != old {
+            grew = true;
+        }
+        i += 1;
+    }
+    grew
+}
+
+// As many rounds as there are roles, or fewer where a round adds nothing.
+fn all_rounds(s: &[u8], sets: &mut [u32])
+    requires { ⌜ (length (now sets) ≡ roles (now s)) × (now sets ≡ replicate (roles (now s)) 0) × (rowAt (roles (now s)) ≤ length (now s)) ⌝ }
+    ensures { λ _. ⌜ now (sets .exit) ≡ rounds (now (s .entry)) (roles (now (s .entry))) ⌝ }
+{
+    let mut n = 0;
+    while n < sets.len() {
+        if round(s, sets) {
+            n += 1;
+        } else {
+            return;
+        }
+    }
+}
+
+// The least set of a role that there is, from empty sets.
+fn least_set(s: &[u8], sets: &mut [u32], role: usize) -> u32
+    requires { ⌜ (length (now sets) ≡ roles (now s)) × (now sets ≡ replicate (roles (now s)) 0) × (rowAt (roles (now s)) ≤ length (now s)) × (role < roles (now s)) ⌝ }
+    ensures { λ r. ⌜ r ≡ meaning (now (s .entry)) role ⌝ }
+{
+    all_rounds(s, sets);
+    sets[role]
+}
+
+// The meaning of a role under a policy: any bytes, any role number.
+pub fn meaning_of(s: &[u8], role: u32) -> Meaning
+    ensures { λ r. ⌜ answer (r .number) (r .bits) ≡ meaningOf (now (s .entry)) role ⌝ }
+{
+    let number = check::policy_number(s);
+    if number != number::ACCEPTED {
+        return Meaning { number, bits: 0 };
+    }
+    let roles = bytes::wide(s[6]);
+    if roles <= role {
+        return Meaning {
+            number: number::NO_SUCH_ROLE,
+            bits: 0,
+        };
+    }
+    let mut sets = [0u32; 64];
+    let n = roles as usize;
+    let bits = least_set(s, &mut sets[..n], role as usize);
+    Meaning {
+        number: number::ACCEPTED,
+        bits,
+    }
+}

@@ -1,0 +1,16 @@
+// The numbers that a call returns, in the order of document 01's table.
+pub const ACCEPTED: u32 = 0;
+
+pub const POLICY_LENGTH: u32 = 1;
+
+pub const POLICY_MARK: u32 = 2;
+
+pub const POLICY_RANGE: u32 = 3;
+
+pub const ROW_PRINCIPAL: u32 = 4;
+
+pub const ROW_OWNER: u32 = 5;
+
+pub const ROW_GRANTS: u32 = 6;
+
+pub const NO_SUCH_ROLE: u32 = 7;
