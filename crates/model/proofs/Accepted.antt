@@ -10,7 +10,7 @@ use borrow.Author.Tests.{ltb-true, leb-true, eqb-true, lt-ltb, le-leb, eq-eqb}
 use Rattle.model.specs.Number.{firstBelow}
 use Rattle.model.specs.Sets.{has, within}
 use Rattle.model.specs.Bytes.{startsWith}
-use Rattle.model.specs.Policy.{policyHead, principals, roles, rowAt, owner, name, viewers, trusters, members, takes, mayTake, Accepted, policyNumber, headNumber, principalNumber, ownerNumber, pairNumber, rowNumber, takenNumber, grantsNumber}
+use Rattle.model.specs.Policy.{policyHead, principals, roles, rowAt, owner, name, viewers, trusters, members, takes, mayTake, Accepted, policyNumber, headNumber, principalNumber, ownerNumber, pairNumber, rowNumber, takenNumber, takesNumber, grantsNumber}
 use Rattle.model.proofs.Number.{unless-zero, first-zero, zero-first, below-zero, zero-below}
 
 -- what holds of row i of an accepted policy
@@ -60,7 +60,7 @@ taken-zero s i j h t = unless-zero (mayTake s i j) _ _ (rw t at h) .0
 
 -- a row's checks, one by one
 row-facts : (s : List ℕ) (i : ℕ) → rowNumber s i ≡ 0 → grantsNumber s i ≡ 0 → RowFacts s i
-unfolding rowNumber principalNumber ownerNumber grantsNumber
+unfolding rowNumber principalNumber ownerNumber takesNumber grantsNumber
 row-facts s i h g =
     let a = first-zero (principalNumber s i) _ h in
     let b = first-zero (ownerNumber s i) _ (a .1) in
@@ -132,7 +132,7 @@ zero-row s i f =
     search (lt-ltb, f .owner-views, f .owner-trusts, pairs)
 
 zero-grants : (s : List ℕ) (i : ℕ) → RowFacts s i → grantsNumber s i ≡ 0
-unfolding grantsNumber
+unfolding takesNumber grantsNumber
 zero-grants s i f =
     let taken = zero-below (takenNumber s i) (roles s) (λ j l. zero-taken s i j (f .takes-allowed j l)) in
     search (lt-ltb, f .members-view, f .members-trust, taken)

@@ -16,7 +16,7 @@ use Rattle.model.proofs.Below.{last-or}
 use Rattle.model.proofs.Enough.{Still, enough}
 
 -- p is in row r of w
-abbrev In : List ℕ → ℕ → ℕ → Type 0
+abbrev pub In : List ℕ → ℕ → ℕ → Type 0
 In w p r = has (getD w r 0) p ≡ true
 
 empty-row : (n r : ℕ) → _≡_ {A = ℕ} (getD (replicate n 0) r 0) 0
@@ -52,7 +52,7 @@ cond-cases true x y p f g h = ⊎-elim f (g refl) (or-has x y p h)
 cond-cases false x y p f g h = f h
 
 module _ (w : List ℕ) (row p : ℕ) where
-  gather-has : (n j : ℕ) → j < n → has row j ≡ true → In w p j → has (gather w row n) p ≡ true
+  pub gather-has : (n j : ℕ) → j < n → has row j ≡ true → In w p j → has (gather w row n) p ≡ true
   unfolding gather
   gather-has zero j l t h = absurd (omega arith)
   gather-has (suc n) j l t h = ⊎-elim
@@ -60,7 +60,7 @@ module _ (w : List ℕ) (row p : ℕ) where
       (λ m. cond-keeps (has row n) (gather w row n) (getD w n 0) p (gather-has n j m t h))
       (last-or n j l)
 
-  has-gather : (n : ℕ) → has (gather w row n) p ≡ true → (j : ℕ) × (j < n) × (has row j ≡ true) × In w p j
+  pub has-gather : (n : ℕ) → has (gather w row n) p ≡ true → (j : ℕ) × (j < n) × (has row j ≡ true) × In w p j
   unfolding gather
   has-gather zero h = absurd (true≢false (sym h ∙ has-zero p))
   has-gather (suc n) h = cond-cases (has row n) (gather w row n) (getD w n 0) p

@@ -7,6 +7,7 @@ use native.Mathlib.Decide.{decLt, ℕ-discrete}
 use mathlib.Core.Path.{_≡_, refl, sym, ap, _∙_}
 use mathlib.Core.Logic.{_⊎_, inl, inr, ⊎-elim}
 use mathlib.Core.Bool.{Bool, true, false, cond}
+use lib.Dec.{eqb}
 use lib.Pow.{shr-shr, pow-lt, pow-mono}
 use lib.Bits.{bitAnd, bitOr, bitXor, differ, and-step, or-step, xor-step, and-shr, or-shr, xor-shr, and-le-l, and-le-r, and-comm, or-lt, xor-add-and}
 use borrow.Author.Tests.{eq-eqb, eqb-true, eqb-false}
@@ -28,6 +29,9 @@ bit-and a b i = rw (and-shr a b i) (omega (arith, and-step (a / 2 ^ i) (b / 2 ^ 
 -- the bit above is that of the half
 half-bit : (a i : ℕ) → bit (a / 2) i ≡ bit a (suc i)
 half-bit a i = ap (λ (n : ℕ). n % 2) (shr-shr a 1 i ∙ rw one-add)
+
+pub half-has : (a i : ℕ) → has (a / 2) i ≡ has a (suc i)
+half-has a i = ap (λ (n : ℕ). eqb n 1) (half-bit a i)
 
 -- n is any bound, to recurse on
 same-bits : (n a b : ℕ) → a ≤ n → b ≤ n → ((i : ℕ) → bit a i ≡ bit b i) → a ≡ b

@@ -98,12 +98,15 @@ rowNumber s i = first (principalNumber s i) (first (ownerNumber s i) (firstBelow
 unfoldable pub takenNumber : List ℕ → ℕ → ℕ → ℕ
 takenNumber s i j = unless (cond (has (takes s i) j) (mayTake s i j) true) rowGrants accepted
 
--- members of row i are its viewers and trusters; it takes in only roles that there are and that it may
+-- row i takes in only roles that there are, n of them, and that it may
+unfoldable pub takesNumber : List ℕ → ℕ → ℕ → ℕ
+takesNumber s i n = unless (ltb (takes s i) (2 ^ n)) rowGrants (firstBelow (takenNumber s i) n)
+
+-- members of row i are its viewers and trusters; it takes in only roles that it may
 unfoldable pub grantsNumber : List ℕ → ℕ → ℕ
 grantsNumber s i =
     unless (within (members s i) (viewers s i)) rowGrants
-    (unless (within (members s i) (trusters s i)) rowGrants
-    (unless (ltb (takes s i) (2 ^ roles s)) rowGrants (firstBelow (takenNumber s i) (roles s))))
+    (unless (within (members s i) (trusters s i)) rowGrants (takesNumber s i (roles s)))
 
 -- the number of any bytes as a policy: the head, then 4 and 5 row by row, then 6
 unfoldable pub policyNumber : List ℕ → ℕ

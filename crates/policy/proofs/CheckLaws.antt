@@ -7,11 +7,11 @@ use native.Mathlib.Omega.{arith}
 use native.Mathlib.Numerals.{add-one}
 use lib.Dec.{ltb}
 use lib.ListN.{length}
-use borrow.Author.Tests.{lt-ltb, le-ltb, le-leb, lt-leb, eq-eqb, ne-eqb, not-true, not-false}
+use borrow.Author.Tests.{lt-ltb, le-ltb, le-leb, lt-leb, eq-eqb, ne-eqb, ltb-true, not-true, not-false}
 use Rattle.model.specs.Number.{first, firstBelow}
 use Rattle.model.specs.Sets.{has, within}
 use Rattle.model.specs.Bytes.{byte, startsWith}
-use Rattle.model.specs.Policy.{policyHead, principals, roles, rowAt, owner, name, viewers, trusters, members, takes, mayTake, headNumber, principalNumber, ownerNumber, pairNumber, rowNumber, takenNumber, grantsNumber, policyNumber}
+use Rattle.model.specs.Policy.{policyHead, principals, roles, rowAt, owner, name, viewers, trusters, members, takes, mayTake, headNumber, principalNumber, ownerNumber, pairNumber, rowNumber, takenNumber, takesNumber, grantsNumber, policyNumber}
 use Rattle.model.proofs.Accepted.{head-zero}
 
 -- the head
@@ -177,31 +177,6 @@ module _ (s : List ℕ) (i a : ℕ) (p : a ≡ principalNumber s i) where
 
 pub ruleset row-laws = (row-principal, row-owner, row-pair)
 
--- 6 of row i: one taken role. `b` is the test of the bit; v, w and t, u are the viewers and trusters of both rows
-module _ (s : List ℕ) (i j row : ℕ) (b : Bool) (p : row ≡ takes s i) (d : b ≡ has row j) where
-  taken : has (takes s i) j ≡ b
-  taken = rw (← p) (sym d)
-
-  pub taken-not : b ≡ false → 0 ≡ takenNumber s i j
-  unfolding takenNumber
-  taken-not f = simp (taken ∙ f)
-
-  module _ (g : b ≡ true) (v w : ℕ) (q : v ≡ viewers s i) (e : w ≡ viewers s j) where
-    pub taken-viewers : (v ≡ w → ⊥) → 6 ≡ takenNumber s i j
-    unfolding takenNumber mayTake
-    taken-viewers h = let k : viewers s i ≡ viewers s j → ⊥ = λ x. h (q ∙ x ∙ sym e) in simp (taken ∙ g, ne-eqb _ _ k)
-
-    module _ (h : v ≡ w) (t u : ℕ) (x : t ≡ trusters s i) (y : u ≡ trusters s j) where
-      pub taken-trusters : (t ≡ u → ⊥) → 6 ≡ takenNumber s i j
-      unfolding takenNumber mayTake
-      taken-trusters k = let l : trusters s i ≡ trusters s j → ⊥ = λ z. k (x ∙ z ∙ sym y) in simp (taken ∙ g, eq-eqb _ _ (sym q ∙ h ∙ e), ne-eqb _ _ l)
-
-      pub taken-right : t ≡ u → 0 ≡ takenNumber s i j
-      unfolding takenNumber mayTake
-      taken-right k = simp (taken ∙ g, eq-eqb _ _ (sym q ∙ h ∙ e), eq-eqb _ _ (sym x ∙ k ∙ y))
-
-pub ruleset taken-laws = (taken-not, taken-viewers, taken-trusters, taken-right, not-true, not-false)
-
 -- 6 of row i
 module _ (s : List ℕ) (i m v : ℕ) (a : Bool) (p : m ≡ members s i) (q : v ≡ viewers s i) (d : a ≡ within m v) where
   viewed : within (members s i) (viewers s i) ≡ a
@@ -219,19 +194,26 @@ module _ (s : List ℕ) (i m v : ℕ) (a : Bool) (p : m ≡ members s i) (q : v 
     unfolding grantsNumber
     members-distrusted f = simp (viewed ∙ g, trusting ∙ f)
 
-    module _ (h : b ≡ true) (n row : ℕ) (c : Bool) (k : n ≡ roles s) (x : row ≡ takes s i) (y : c ≡ ltb row (2 ^ n)) where
-      below : ltb (takes s i) (2 ^ roles s) ≡ c
-      below = rw (← k, ← x) (sym y)
+    pub members-right : b ≡ true → (n r : ℕ) → n ≡ roles s → r ≡ takesNumber s i n → r ≡ grantsNumber s i
+    unfolding grantsNumber
+    members-right h n r k z = simp (viewed ∙ g, trusting ∙ h) (rw k at z)
 
-      pub takes-large : c ≡ false → 6 ≡ grantsNumber s i
-      unfolding grantsNumber
-      takes-large f = simp (viewed ∙ g, trusting ∙ h, below ∙ f)
+pub ruleset grants-laws = (members-hidden, members-distrusted, members-right, not-true, not-false)
 
-      pub takes-rest : c ≡ true → (r : ℕ) → r ≡ firstBelow (takenNumber s i) n → r ≡ grantsNumber s i
-      unfolding grantsNumber
-      takes-rest f r z = simp (viewed ∙ g, trusting ∙ h, below ∙ f) (rw k at z)
+-- 6 of row i: the roles that it takes
+module _ (s : List ℕ) (i n row : ℕ) (c : Bool) (x : row ≡ takes s i) (y : c ≡ ltb row (2 ^ n)) where
+  pub takes-large : c ≡ false → 6 ≡ takesNumber s i n
+  unfolding takesNumber
+  takes-large f = rw (← x) (simp (sym y ∙ f))
 
-pub ruleset grants-laws = (members-hidden, members-distrusted, takes-large, takes-rest, not-true, not-false)
+  pub takes-small : c ≡ true → takes s i < 2 ^ n
+  takes-small f = rw (← x) (ltb-true row (2 ^ n) (sym y ∙ f))
+
+  pub takes-each : c ≡ true → (r : ℕ) → r ≡ firstBelow (takenNumber s i) n → r ≡ takesNumber s i n
+  unfolding takesNumber
+  takes-each f r z = rw (← x) (simp (sym y ∙ f) z)
+
+pub ruleset row-takes = (takes-large, takes-small, takes-each, not-true, not-false)
 
 -- the whole policy
 module _ (s : List ℕ) (a : ℕ) (p : a ≡ headNumber s) where

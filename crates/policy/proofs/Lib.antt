@@ -2,4 +2,5 @@ mod SetLaws
 mod ByteLaws
 mod RowLaws
 mod CheckLaws
+mod TakesLaws
 mod MeaningLaws

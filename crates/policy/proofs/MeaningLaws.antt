@@ -1,38 +1,69 @@
 -- A law for each return and each turn of meaning.rt: what a loop has done so far is what the definition says of as many steps.
 use mathlib.Core.Path.{_≡_, refl, sym, ap, _∙_}
-use Prim.Native.Nat.{ℕ, zero, suc, _+_, _-_, _<_, _≤_}
+use mathlib.Core.Logic.{_⊎_, inl, inr, ⊎-elim}
+use Prim.Native.Nat.{ℕ, zero, suc, _+_, _-_, _^_, _<_, _≤_}
 use mathlib.Core.List.{List, [], _∷_}
 use mathlib.Core.Bool.{Bool, true, false, true≢false}
 use native.Mathlib.Omega.{arith}
 use native.Mathlib.Numerals.{add-one}
-use lib.Bits.{bitOr}
+use lib.Bits.{bitOr, or-zero-l, or-zero-r}
 use lib.ListN.{length, getD, set, take, replicate, length-set, length-replicate}
 use lib.Seq.{set-getD}
 use borrow.Author.Tests.{lt-ltb, le-ltb, eq-eqb, ne-eqb}
-use Rattle.model.specs.Sets.{has}
-use Rattle.model.specs.Policy.{roles, rowAt, members, takes, policyNumber}
+use Rattle.model.specs.Sets.{has, without}
+use Rattle.model.specs.Policy.{roles, rowAt, members, takes, Accepted, policyNumber}
 use Rattle.model.specs.Meaning.{gather, grown, steps, rounds, meaning, answer, meaningOf}
 use Rattle.model.proofs.Accepted.{accepted-facts}
+use Rattle.model.proofs.Sets.{has-zero, has-or-l, has-or-r, or-has, same-sets, has-below, has-without, without-has, without-le}
+use Rattle.model.proofs.Least.{In, gather-has, has-gather}
+use Rattle.policy.proofs.SetLaws.{next-without}
+use Rattle.policy.proofs.TakesLaws.{same-or, smaller}
 use Rattle.policy.specs.Still.{Still}
 
--- the union over the roles in row, role by role
-module _ (w : List ℕ) (row j u : ℕ) (e : u ≡ gather w row j) where
-  pub joined-in : (b : Bool) → b ≡ has row j → b ≡ true → bitOr u (getD w j 0) ≡ gather w row (j + 1)
-  unfolding gather
-  joined-in b d h = rw (add-one j) (simp (sym d ∙ h) (ap (λ (n : ℕ). bitOr n (getD w j 0)) e))
+-- the union over the roles in row, of which `rest` are still to come
+or-assoc : (a b c : ℕ) → bitOr (bitOr a b) c ≡ bitOr a (bitOr b c)
+or-assoc a b c = same-sets _ _
+    (λ p h. ⊎-elim (λ k. ⊎-elim (λ l. has-or-l a _ p l) (λ l. has-or-r a _ p (has-or-l b c p l)) (or-has a b p k)) (λ k. has-or-r a _ p (has-or-r b c p k)) (or-has (bitOr a b) c p h))
+    (λ p h. ⊎-elim (λ k. has-or-l _ c p (has-or-l a b p k)) (λ k. ⊎-elim (λ l. has-or-l _ c p (has-or-r a b p l)) (λ l. has-or-r (bitOr a b) c p l) (or-has b c p k)) (or-has a (bitOr b c) p h))
 
-  pub joined-out : (b : Bool) → b ≡ has row j → b ≡ false → u ≡ gather w row (j + 1)
-  unfolding gather
-  joined-out b d h = rw (add-one j) (simp (sym d ∙ h) e)
+-- a role that is in row may be taken out first
+gather-out : (w : List ℕ) (row n j : ℕ) → row < 2 ^ n → has row j ≡ true → gather w row n ≡ bitOr (getD w j 0) (gather w (without row j) n)
+gather-out w row n j fits m = same-sets _ _ there back
+  where
+    part : (p x : ℕ) → x < n → has row x ≡ true → In w p x → (x ≡ j) ⊎ (x ≡ j → ⊥) → has (bitOr (getD w j 0) (gather w (without row j) n)) p ≡ true
+    part p x l t k (inl e) = has-or-l (getD w j 0) _ p (rw e at k)
+    part p x l t k (inr q) = has-or-r (getD w j 0) _ p (gather-has w (without row j) p n x l (has-without row j x t q) k)
 
-  pub union-done : j ≤ length w → length w ≤ j → u ≡ gather w row (length w)
-  union-done h g = let n : j ≡ length w = omega arith in rw (← n) e
+    there : (p : ℕ) → has (gather w row n) p ≡ true → has (bitOr (getD w j 0) (gather w (without row j) n)) p ≡ true
+    there p h = let (x, l, t, k) = has-gather w row p n h in part p x l t k (same-or x j)
 
-pub union-none : (w : List ℕ) (row : ℕ) → 0 ≡ gather w row 0
-unfolding gather
-union-none w row = refl
+    back : (p : ℕ) → has (bitOr (getD w j 0) (gather w (without row j) n)) p ≡ true → has (gather w row n) p ≡ true
+    back p h = ⊎-elim (λ k. gather-has w row p n j (has-below n row j fits m) m k)
+        (λ k. let (x, l, t, q) = has-gather w (without row j) p n k in gather-has w row p n x l (without-has row j x t .0) q)
+        (or-has (getD w j 0) _ p h)
 
-pub ruleset unions = (joined-in, joined-out, union-done, union-none)
+-- nothing is gathered over no role
+gather-none : (w : List ℕ) (n : ℕ) → gather w 0 n ≡ 0
+gather-none w n = same-sets _ _ (λ p h. let (x, l, t, k) = has-gather w 0 p n h in absurd (true≢false (sym t ∙ has-zero x))) (λ p h. absurd (true≢false (sym h ∙ has-zero p)))
+
+module _ (w : List ℕ) (row n : ℕ) where
+  pub union-start : bitOr 0 (gather w row n) ≡ gather w row n
+  union-start = or-zero-l (gather w row n)
+
+  module _ (u rest : ℕ) (e : bitOr u (gather w rest n) ≡ gather w row n) where
+    pub union-turn : (j next : ℕ) → rest < 2 ^ n → has rest j ≡ true → next ≡ without rest j → bitOr (bitOr u (getD w j 0)) (gather w next n) ≡ gather w row n
+    union-turn j next fits m f = rw f (or-assoc u (getD w j 0) (gather w (without rest j) n) ∙ ap (λ (x : ℕ). bitOr u x) (sym (gather-out w rest n j fits m)) ∙ e)
+
+    pub union-done : rest ≤ 0 → u ≡ gather w row n
+    union-done h = let z : rest ≡ 0 = omega arith in sym (or-zero-r u) ∙ ap (λ (x : ℕ). bitOr u x) (sym (gather-none w n)) ∙ rw z at e
+
+pub union-inside : (w : List ℕ) (rest j : ℕ) → rest < 2 ^ length w → has rest j ≡ true → j < length w
+union-inside w rest j = has-below (length w) rest j
+
+pub union-fits : (n rest j next : ℕ) → rest < 2 ^ n → next ≡ without rest j → next < 2 ^ n
+union-fits n rest j next h e = rw e (omega (arith, without-le rest j))
+
+pub ruleset unions = (union-start, union-turn, union-done, union-inside, union-fits, smaller, next-without)
 
 -- a round, row by row
 module _ (s old : List ℕ) where
@@ -66,7 +97,15 @@ pub still-same : (old w : List ℕ) (b b′ : Bool) (i x : ℕ) → Still b old 
 unfolding Still
 still-same old w b b′ i x s g e f = rw e (set-getD w i 0 ∙ s (sym g ∙ f))
 
-pub ruleset round-laws = (steps-none, steps-more, steps-done, still-none, still-not, still-same)
+-- an accepted policy's rows are there, and take only roles that there are
+module _ (s : List ℕ) (ok : Accepted s) where
+  pub row-there : (w : List ℕ) (i : ℕ) → length w ≡ roles s → i < length w → rowAt i + 22 ≤ length s
+  row-there w i l h = omega (arith, accepted-facts s ok .long)
+
+  pub row-fits : (w : List ℕ) (i t : ℕ) → length w ≡ roles s → i < length w → t ≡ takes s i → t < 2 ^ length w
+  row-fits w i t l h e = rw (e, l) (accepted-facts s ok .row i (omega arith) .takes-below)
+
+pub ruleset round-laws = (row-there, row-fits, steps-none, steps-more, steps-done, still-none, still-not, still-same)
 
 -- the rounds
 module _ (s : List ℕ) where
@@ -146,8 +185,8 @@ module _ (s : List ℕ) (r k : ℕ) (p : k ≡ policyNumber s) where
     pub asked-seven : 6 < length s
     asked-seven = omega (arith, long)
 
-    pub asked-rows : rowAt (roles s) ≤ length s
-    asked-rows = omega (arith, long)
+    pub asked-accepted : Accepted s
+    asked-accepted = sym p ∙ z
 
     pub asked-few : (n : ℕ) → n ≡ roles s → n ≤ 64
     asked-few n e = omega (arith, accepted-facts s (sym p ∙ z) .roles-fit)
@@ -161,4 +200,4 @@ module _ (s : List ℕ) (r k : ℕ) (p : k ≡ policyNumber s) where
       unfolding meaningOf
       asked-found h x y = let l : r < roles s = omega arith in rw y (simp (eq-eqb _ _ (sym p ∙ z), lt-ltb _ _ l))
 
-pub ruleset asked = (asked-refused, asked-seven, asked-rows, asked-few, asked-none, asked-found, zeros-count, zeros-length, zeros-are)
+pub ruleset asked = (asked-refused, asked-seven, asked-accepted, asked-few, asked-none, asked-found, zeros-count, zeros-length, zeros-are)

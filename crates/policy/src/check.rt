@@ -1,9 +1,11 @@
 // The number 0 to 6 of any bytes as a policy, in the order that document 01 fixes: the head, then 4 and 5 row by row, then 6.
 ghost use mathlib.Core.Path.{_≡_};
-ghost use Prim.Native.Nat.{ℕ, _+_, _<_, _≤_};
+ghost use mathlib.Core.Bool.{Bool, true, false};
+ghost use Prim.Native.Nat.{ℕ, _+_, _^_, _<_, _≤_};
 ghost use lib.ListN.{length};
 ghost use Rattle.model.specs.Number.{firstBelow};
-ghost use Rattle.model.specs.Policy.{roles, rowAt, headNumber, principalNumber, ownerNumber, pairNumber, rowNumber, takenNumber, grantsNumber, policyNumber};
+ghost use Rattle.model.specs.Sets.{has};
+ghost use Rattle.model.specs.Policy.{roles, rowAt, takes, headNumber, principalNumber, ownerNumber, pairNumber, rowNumber, takenNumber, takesNumber, grantsNumber, policyNumber};
 use super::bytes;
 use super::number;
 use super::rows;
@@ -137,14 +139,11 @@ fn rows_number(s: &[u8], n: usize) -> u32
     number::ACCEPTED
 }
 
-// 6: row i may take in role j, if it does.
+// 6: row i, which takes role j, may take it in.
 fn taken_number(s: &[u8], i: usize, j: usize) -> u32
-    requires { ⌜ (rowAt i + 22 ≤ length (now s)) × (rowAt j + 22 ≤ length (now s)) ⌝ }
+    requires { ⌜ (rowAt i + 22 ≤ length (now s)) × (rowAt j + 22 ≤ length (now s)) × (has (takes (now s) i) j ≡ true) ⌝ }
     ensures { λ r. ⌜ r ≡ takenNumber (now (s .entry)) i j ⌝ }
 {
-    if !sets::contains(rows::takes_of(s, i), j as u64) {
-        return number::ACCEPTED;
-    }
     if rows::viewers_of(s, i) != rows::viewers_of(s, j) {
         return number::ROW_GRANTS;
     }
@@ -154,20 +153,32 @@ fn taken_number(s: &[u8], i: usize, j: usize) -> u32
     number::ACCEPTED
 }
 
-// 6: row i takes in only roles that it may, of the first n.
-fn takes_number(s: &[u8], i: usize, n: usize) -> u32
-    requires { ⌜ (rowAt n ≤ length (now s)) × (i < n) ⌝ }
+// 6: row i takes in only roles that it may. Only those that it takes are visited.
+fn each_taken_number(s: &[u8], i: usize, n: usize) -> u32
+    requires { ⌜ (rowAt n ≤ length (now s)) × (i < n) × (takes (now s) i < 2 ^ n) ⌝ }
     ensures { λ r. ⌜ r ≡ firstBelow (takenNumber (now (s .entry)) i) n ⌝ }
 {
-    let mut j = 0;
-    while j < n {
-        let number = taken_number(s, i, j);
+    let mut rest = rows::takes_of(s, i);
+    while 0 < rest {
+        let j = sets::lowest(rest);
+        let number = taken_number(s, i, j as usize);
         if number != number::ACCEPTED {
             return number;
         }
-        j += 1;
+        rest = sets::without_lowest(rest);
     }
     number::ACCEPTED
+}
+
+// 6: row i takes in only roles that there are, and that it may.
+fn takes_number(s: &[u8], i: usize, n: usize) -> u32
+    requires { ⌜ (rowAt n ≤ length (now s)) × (i < n) ⌝ }
+    ensures { λ r. ⌜ r ≡ takesNumber (now (s .entry)) i n ⌝ }
+{
+    if !sets::all_below(rows::takes_of(s, i), n as u64) {
+        return number::ROW_GRANTS;
+    }
+    each_taken_number(s, i, n)
 }
 
 // 6: members of row i are its viewers and trusters; it takes in only roles that there are and that it may.
@@ -180,9 +191,6 @@ fn grants_number(s: &[u8], i: usize, n: usize) -> u32
         return number::ROW_GRANTS;
     }
     if !sets::subset(members, rows::trusters_of(s, i) as u64) {
-        return number::ROW_GRANTS;
-    }
-    if !sets::all_below(rows::takes_of(s, i), n as u64) {
         return number::ROW_GRANTS;
     }
     takes_number(s, i, n)

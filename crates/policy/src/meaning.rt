@@ -1,8 +1,8 @@
 // The meaning of a role: the least sets where each role holds its members and all that the roles it takes hold.
 ghost use mathlib.Core.Path.{_≡_};
-ghost use Prim.Native.Nat.{ℕ, _+_, _<_, _≤_};
+ghost use Prim.Native.Nat.{ℕ, _+_, _^_, _<_, _≤_};
 ghost use lib.ListN.{length, replicate};
-ghost use Rattle.model.specs.Policy.{roles, rowAt};
+ghost use Rattle.model.specs.Policy.{roles, rowAt, Accepted};
 ghost use Rattle.model.specs.Meaning.{gather, grown, steps, rounds, meaning, answer, meaningOf};
 ghost use Rattle.policy.specs.Still.{Still};
 use super::bytes;
@@ -17,33 +17,24 @@ pub struct Meaning {
     pub bits: u32,
 }
 
-// The union of the sets of the roles in `row`.
+// The union of the sets of the roles in `row`. Only the roles that are in it are visited.
 fn union_of(sets: &[u32], row: u64) -> u32
+    requires { ⌜ row < 2 ^ length (now sets) ⌝ }
     ensures { λ r. ⌜ r ≡ gather (now (sets .entry)) row (length (now (sets .entry))) ⌝ }
 {
     let mut union = 0;
-    let mut j = 0;
-    while j < sets.len() {
-        union = joined(sets, row, j, union);
-        j += 1;
-    }
-    union
-}
-
-// `union` with the set of role j, where j is in `row`.
-fn joined(sets: &[u32], row: u64, j: usize, union: u32) -> u32
-    requires { ⌜ (j < length (now sets)) × (union ≡ gather (now sets) row j) ⌝ }
-    ensures { λ r. ⌜ r ≡ gather (now (sets .entry)) row (j + 1) ⌝ }
-{
-    if sets::contains(row, j as u64) {
-        return union | sets[j];
+    let mut rest = row;
+    while 0 < rest {
+        let j = sets::lowest(rest);
+        union = union | sets[j as usize];
+        rest = sets::without_lowest(rest);
     }
     union
 }
 
 // One round over all rows, in place. False when no set grew.
 fn round(s: &[u8], sets: &mut [u32]) -> bool
-    requires { ⌜ (length (now sets) ≡ roles (now s)) × (rowAt (roles (now s)) ≤ length (now s)) ⌝ }
+    requires { ⌜ (length (now sets) ≡ roles (now s)) × Accepted (now s) ⌝ }
     ensures now_sets { λ r. ⌜ now (sets .exit) ≡ steps (now (s .entry)) (now (sets .entry)) (roles (now (s .entry))) ⌝ }
     ensures still { λ r. ⌜ Still r (now (sets .entry)) (now (sets .exit)) ⌝ }
 {
@@ -63,7 +54,7 @@ fn round(s: &[u8], sets: &mut [u32]) -> bool
 
 // As many rounds as there are roles, or fewer where a round adds nothing.
 fn all_rounds(s: &[u8], sets: &mut [u32])
-    requires { ⌜ (length (now sets) ≡ roles (now s)) × (now sets ≡ replicate (roles (now s)) 0) × (rowAt (roles (now s)) ≤ length (now s)) ⌝ }
+    requires { ⌜ (length (now sets) ≡ roles (now s)) × (now sets ≡ replicate (roles (now s)) 0) × Accepted (now s) ⌝ }
     ensures { λ _. ⌜ now (sets .exit) ≡ rounds (now (s .entry)) (roles (now (s .entry))) ⌝ }
 {
     let mut n = 0;
@@ -78,7 +69,7 @@ fn all_rounds(s: &[u8], sets: &mut [u32])
 
 // The least set of a role that there is, from empty sets.
 fn least_set(s: &[u8], sets: &mut [u32], role: usize) -> u32
-    requires { ⌜ (length (now sets) ≡ roles (now s)) × (now sets ≡ replicate (roles (now s)) 0) × (rowAt (roles (now s)) ≤ length (now s)) × (role < roles (now s)) ⌝ }
+    requires { ⌜ (length (now sets) ≡ roles (now s)) × (now sets ≡ replicate (roles (now s)) 0) × Accepted (now s) × (role < roles (now s)) ⌝ }
     ensures { λ r. ⌜ r ≡ meaning (now (s .entry)) role ⌝ }
 {
     all_rounds(s, sets);

@@ -1,8 +1,10 @@
 // Sets of principals or roles as the bits of a word. Each function takes every word and every number.
 ghost use mathlib.Core.Path.{_≡_};
-ghost use Prim.Native.Nat.{ℕ, _^_};
+ghost use mathlib.Core.Bool.{Bool, true, false};
+ghost use Prim.Native.Nat.{ℕ, _^_, _<_};
+ghost use lib.Count.{trailingZeros};
 ghost use lib.Dec.{ltb};
-ghost use Rattle.model.specs.Sets.{has, within};
+ghost use Rattle.model.specs.Sets.{has, within, without};
 
 // Whether i is in the set.
 pub fn contains(a: u64, i: u64) -> bool
@@ -29,4 +31,21 @@ pub fn all_below(a: u64, n: u64) -> bool
         return a < 1 << n;
     }
     true
+}
+
+// The lowest number in a set that has one.
+pub fn lowest(a: u64) -> u64
+    requires { ⌜ 0 < a ⌝ }
+    ensures lowest { λ r. ⌜ r ≡ trailingZeros 64 a ⌝ }
+    ensures member { λ r. ⌜ has a r ≡ true ⌝ }
+{
+    u64::trailing_zeros(a) as u64
+}
+
+// The set without its lowest number.
+pub fn without_lowest(a: u64) -> u64
+    requires { ⌜ 0 < a ⌝ }
+    ensures { λ r. ⌜ r ≡ without a (trailingZeros 64 a) ⌝ }
+{
+    a & (a - 1)
 }

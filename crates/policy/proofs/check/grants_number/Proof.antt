@@ -1,5 +1,3 @@
-use borrow.Author.Tests.{not-true, not-false}
-use Rattle.policy.proofs.CheckLaws.{members-distrusted}
 use Rattle.policy.proofs.CheckLaws.{grants-laws}
 use borrow.Author.Needs.{needs}
 use Rattle.policy.proofs.check.grants_number.Statement.{statement}
@@ -8,10 +6,8 @@ use Rattle.policy.proofs.check.grants_number.Reads as reads
 use Rattle.policy.proofs.check.grants_number.Lts as lts
 use Rattle.policy.proofs.check.takes_number.Reads as takes-number-reads
 use Rattle.policy.proofs.rows.members_of.Reads as members-of-reads
-use Rattle.policy.proofs.rows.takes_of.Reads as takes-of-reads
 use Rattle.policy.proofs.rows.trusters_of.Reads as trusters-of-reads
 use Rattle.policy.proofs.rows.viewers_of.Reads as viewers-of-reads
-use Rattle.policy.proofs.sets.all_below.Reads as all-below-reads
 use Rattle.policy.proofs.sets.subset.Reads as subset-reads
 
 pub grants-number-spec : {M : Type 1} → statement M
@@ -26,9 +22,6 @@ grants-number-spec =
     (λ c. search (needs, grants-laws))
     (λ c κs. search needs)
     (λ c. search needs)
-    (λ c κs. search needs)
-    (λ c. search (members-distrusted, not-true, not-false))
-    (λ c κs. search needs)
     (λ c κs. search needs)
     (λ c. search (needs, grants-laws))
     (λ c κs. search needs)

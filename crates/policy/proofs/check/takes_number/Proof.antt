@@ -1,31 +1,18 @@
-use Rattle.model.specs.Policy.{takenNumber}
-use Rattle.model.specs.Number.{firstBelow}
-use Prim.Native.Nat.{ℕ, _≤_, _-_, _+_}
-use mathlib.Core.Path.{_≡_}
-use Rattle.policy.proofs.CheckLaws.{loops}
+use Rattle.policy.proofs.CheckLaws.{row-takes}
 use borrow.Author.Needs.{needs}
 use Rattle.policy.proofs.check.takes_number.Statement.{statement}
 use Rattle.policy.proofs.check.takes_number.Tie as tie
 use Rattle.policy.proofs.check.takes_number.Reads as reads
 use Rattle.policy.proofs.check.takes_number.Lts as lts
-use Rattle.policy.proofs.check.taken_number.Reads as taken-number-reads
+use Rattle.policy.proofs.check.each_taken_number.Reads as each-taken-number-reads
+use Rattle.policy.proofs.rows.takes_of.Reads as takes-of-reads
+use Rattle.policy.proofs.sets.all_below.Reads as all-below-reads
 
-abbrev Inv-loop : tie.InvT-loop
-Inv-loop s i n j₀ j = (j ≤ n) × (firstBelow (takenNumber s i) j ≡ 0)
-
-abbrev μ-loop : tie.MeasureT-loop
-μ-loop s i n j₀ j = n - j
+-- src/check.rt:181:5
+each-taken-number-requires : tie.Need-each-taken-number-requires
+each-taken-number-requires c κs = (search needs, search needs, search row-takes)
 
 pub takes-number-spec : {M : Type 1} → statement M
 takes-number-spec =
     tie.close
-    (tie.spec
-    Inv-loop
-    μ-loop
-    (λ c. search (needs, loops))
-    (λ c κs. search needs)
-    (λ c. search (needs, loops))
-    (λ c. search needs)
-    (λ c. search needs)
-    (λ c. search (needs, loops))
-    (λ c. search (needs, loops)))
+    (tie.spec (λ c κs. search (needs, row-takes)) (λ c κs. search (needs, row-takes)) (λ c. search (needs, row-takes)) each-taken-number-requires (λ c. search (needs, row-takes)))

@@ -1,0 +1,134 @@
+-- The roles that a row takes are looked at one after the other, lowest first: what is no longer left is right.
+use mathlib.Core.Path.{_≡_, refl, sym, _∙_}
+use mathlib.Core.Logic.{_⊎_, inl, inr, ⊎-elim}
+use Prim.Native.Nat.{ℕ, zero, suc, _+_, _^_, _<_, _≤_}
+use mathlib.Core.List.{List}
+use mathlib.Core.Bool.{Bool, true, false, true≢false, cond}
+use native.Mathlib.Omega.{arith}
+use native.Mathlib.Decide.{ℕ-discrete}
+use lib.Dec.{eqb·suc-zero}
+use lib.Pow.{pow-pos}
+use lib.ListN.{length}
+use borrow.Author.Tests.{eq-eqb, ne-eqb}
+use Rattle.model.specs.Number.{unless, first, firstBelow}
+use Rattle.model.specs.Sets.{has, without}
+use Rattle.model.specs.Policy.{rowAt, viewers, trusters, takes, mayTake, takenNumber}
+use Rattle.model.proofs.Below.{last-or}
+use Rattle.model.proofs.Number.{zero-below}
+use Rattle.model.proofs.Sets.{has-zero, has-below, has-without, without-has}
+use Rattle.policy.proofs.SetLaws.{held-power, next-without}
+
+-- two numbers are the same, or not
+pub same-or : (x j : ℕ) → (x ≡ j) ⊎ (x ≡ j → ⊥)
+same-or x j = go (ℕ-discrete x j)
+  where
+    go : Dec (x ≡ j) → (x ≡ j) ⊎ (x ≡ j → ⊥)
+    go (yes e) = inl e
+    go (no k) = inr k
+
+-- 6 of row i: one role that it takes; v, w and t, u are the viewers and trusters of both rows
+module _ (s : List ℕ) (i j : ℕ) (g : has (takes s i) j ≡ true) (v w : ℕ) (q : v ≡ viewers s i) (e : w ≡ viewers s j) where
+  pub taken-viewers : (v ≡ w → ⊥) → 6 ≡ takenNumber s i j
+  unfolding takenNumber mayTake
+  taken-viewers h = let k : viewers s i ≡ viewers s j → ⊥ = λ x. h (q ∙ x ∙ sym e) in simp (g, ne-eqb _ _ k)
+
+  module _ (h : v ≡ w) (t u : ℕ) (x : t ≡ trusters s i) (y : u ≡ trusters s j) where
+    pub taken-trusters : (t ≡ u → ⊥) → 6 ≡ takenNumber s i j
+    unfolding takenNumber mayTake
+    taken-trusters k = let l : trusters s i ≡ trusters s j → ⊥ = λ z. k (x ∙ z ∙ sym y) in simp (g, eq-eqb _ _ (sym q ∙ h ∙ e), ne-eqb _ _ l)
+
+    pub taken-right : t ≡ u → 0 ≡ takenNumber s i j
+    unfolding takenNumber mayTake
+    taken-right k = simp (g, eq-eqb _ _ (sym q ∙ h ∙ e), eq-eqb _ _ (sym x ∙ k ∙ y))
+
+pub ruleset taken-laws = (taken-viewers, taken-trusters, taken-right)
+
+-- the roles that row i takes, one after the other, lowest first: those no longer in rest are right
+unfoldable pub Passed : List ℕ → ℕ → ℕ → Type 0
+Passed s i rest = (j : ℕ) → has rest j ≡ false → takenNumber s i j ≡ 0
+
+-- what is left is part of what the row takes
+unfoldable pub Left : List ℕ → ℕ → ℕ → Type 0
+Left s i rest = (j : ℕ) → has rest j ≡ true → has (takes s i) j ≡ true
+
+taken-none : (s : List ℕ) (i j : ℕ) → has (takes s i) j ≡ false → takenNumber s i j ≡ 0
+unfolding takenNumber
+taken-none s i j h = simp h
+
+taken-six : (s : List ℕ) (i j : ℕ) → (takenNumber s i j ≡ 0) ⊎ (takenNumber s i j ≡ 6)
+unfolding takenNumber
+taken-six s i j = go (cond (has (takes s i) j) (mayTake s i j) true)
+  where
+    go : (b : Bool) → (unless b 6 0 ≡ 0) ⊎ (unless b 6 0 ≡ 6)
+    go true = inl refl
+    go false = inr refl
+
+each-below : (f : ℕ → ℕ) (k n : ℕ) → ((j : ℕ) → (f j ≡ 0) ⊎ (f j ≡ k)) → (firstBelow f n ≡ 0) ⊎ (firstBelow f n ≡ k)
+unfolding firstBelow
+each-below f k zero each = inl refl
+each-below f k (suc n) each = go (each-below f k n each) (each n) (firstBelow f n) refl
+  where
+    go : (firstBelow f n ≡ 0) ⊎ (firstBelow f n ≡ k) → (f n ≡ 0) ⊎ (f n ≡ k) → (a : ℕ) → firstBelow f n ≡ a → (first a (f n) ≡ 0) ⊎ (first a (f n) ≡ k)
+    go (inl x) y a e = let z : a ≡ 0 = sym e ∙ x in rw z y
+    go (inr x) y zero e = y
+    go (inr x) y (suc a) e = inr (simp eqb·suc-zero (sym e ∙ x))
+
+-- among numbers that are 0 or k, the first that is not 0 is k, if there is one
+one-number : (f : ℕ → ℕ) (k n j : ℕ) → ((j : ℕ) → (f j ≡ 0) ⊎ (f j ≡ k)) → (k ≡ 0 → ⊥) → j < n → f j ≡ k → firstBelow f n ≡ k
+unfolding firstBelow
+one-number f k zero j each z l e = absurd (omega arith)
+one-number f k (suc n) j each z l e = ⊎-elim
+    (λ i. go (each-below f k n each) (rw i at e))
+    (λ m. rw (one-number f k n j each z m e) (simp (ne-eqb _ _ z)))
+    (last-or n j l)
+  where
+    go : (firstBelow f n ≡ 0) ⊎ (firstBelow f n ≡ k) → f n ≡ k → first (firstBelow f n) (f n) ≡ k
+    go (inl a) b = rw (a, b)
+    go (inr a) b = rw a (simp (ne-eqb _ _ z))
+
+module _ (s : List ℕ) (i n : ℕ) (fits : takes s i < 2 ^ n) where
+  pub passed-start : (row : ℕ) → row ≡ takes s i → Passed s i row
+  unfolding Passed
+  passed-start row e j h = taken-none s i j (rw e at h)
+
+  pub left-start : (row : ℕ) → row ≡ takes s i → Left s i row
+  unfolding Left
+  left-start row e j h = rw e at h
+
+  module _ (rest j : ℕ) (m : has rest j ≡ true) where
+    pub left-takes : Left s i rest → has (takes s i) j ≡ true
+    unfolding Left
+    left-takes l = l j m
+
+    pub left-row : Left s i rest → rowAt n ≤ length s → rowAt j + 22 ≤ length s
+    unfolding Left
+    left-row l h = omega (arith, has-below n (takes s i) j fits (l j m))
+
+    pub passed-next : (k next : ℕ) → Passed s i rest → k ≡ takenNumber s i j → k ≡ 0 → next ≡ without rest j → Passed s i next
+    unfolding Passed
+    passed-next k next f e z w x h = go (has rest x) refl
+      where
+        go : (b : Bool) → has rest x ≡ b → takenNumber s i x ≡ 0
+        go false g = f x g
+        go true g = ⊎-elim (λ q. rw q (sym e ∙ z)) (λ q. absurd (true≢false (sym (has-without rest j x g q) ∙ rw w at h))) (same-or x j)
+
+    pub left-next : (next : ℕ) → Left s i rest → next ≡ without rest j → Left s i next
+    unfolding Left
+    left-next next l w x h = l x (without-has rest j x (rw w at h) .0)
+
+    pub taken-found : (k : ℕ) → Left s i rest → k ≡ takenNumber s i j → (k ≡ 0 → ⊥) → k ≡ firstBelow (takenNumber s i) n
+    unfolding Left
+    taken-found k l e z = sym (one-number (takenNumber s i) k n j (λ x. ⊎-elim inl (λ a. inr (a ∙ sym six)) (taken-six s i x)) z (has-below n (takes s i) j fits (l j m)) (sym e))
+      where
+        six : k ≡ 6
+        six = ⊎-elim (λ a. absurd (z (e ∙ a))) (λ a. e ∙ a) (taken-six s i j)
+
+  pub taken-done : (rest : ℕ) → Passed s i rest → rest ≤ 0 → 0 ≡ firstBelow (takenNumber s i) n
+  unfolding Passed
+  taken-done rest f h = sym (zero-below (takenNumber s i) n (λ x l. f x (let z : rest ≡ 0 = omega arith in rw z (has-zero x))))
+
+-- a set loses a number that is in it
+pub smaller : (rest j next : ℕ) → has rest j ≡ true → next ≡ without rest j → next < rest
+smaller rest j next m w = rw (w, m) (omega (arith, held-power rest j m, pow-pos j))
+
+pub ruleset takes-laws = (passed-start, left-start, left-takes, left-row, passed-next, left-next, taken-found, taken-done, smaller, next-without)

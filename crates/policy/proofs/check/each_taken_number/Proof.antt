@@ -1,0 +1,35 @@
+use Rattle.policy.proofs.TakesLaws.{Passed, Left}
+use Prim.Native.Nat.{ℕ, _≤_, _-_, _+_}
+use mathlib.Core.Path.{_≡_}
+use Rattle.policy.proofs.TakesLaws.{takes-laws}
+use borrow.Author.Needs.{needs}
+use Rattle.policy.proofs.check.each_taken_number.Statement.{statement}
+use Rattle.policy.proofs.check.each_taken_number.Tie as tie
+use Rattle.policy.proofs.check.each_taken_number.Reads as reads
+use Rattle.policy.proofs.check.each_taken_number.Lts as lts
+use Rattle.policy.proofs.check.taken_number.Reads as taken-number-reads
+use Rattle.policy.proofs.rows.takes_of.Reads as takes-of-reads
+use Rattle.policy.proofs.sets.lowest.Reads as lowest-reads
+use Rattle.policy.proofs.sets.without_lowest.Reads as without-lowest-reads
+
+abbrev Inv-loop : tie.InvT-loop
+Inv-loop s i n rest₀ rest = Passed s i rest × Left s i rest
+
+abbrev μ-loop : tie.MeasureT-loop
+μ-loop s i n rest₀ rest = rest
+
+pub each-taken-number-spec : {M : Type 1} → statement M
+each-taken-number-spec =
+    tie.close
+    (tie.spec
+    Inv-loop
+    μ-loop
+    (λ c κs. search (needs, takes-laws))
+    (λ c. search (needs, takes-laws))
+    (λ c κs. search (needs, takes-laws))
+    (λ c κs. search (needs, takes-laws))
+    (λ c. search (needs, takes-laws))
+    (λ c κs. search (needs, takes-laws))
+    (λ c. search (needs, takes-laws))
+    (λ c. search (needs, takes-laws))
+    (λ c. search (needs, takes-laws)))
