@@ -5,12 +5,13 @@ use mathlib.Core.Path.{_≡_, refl, sym, ap, _∙_}
 use mathlib.Core.Logic.{_⊎_, inl, inr, ⊎-elim}
 use mathlib.Core.List.{List, [], _∷_}
 use mathlib.Core.Bool.{Bool, true, false, cond, true≢false}
-use lib.ListN.{length, getD, set, replicate, length-set, length-replicate, List·getD-eq-default}
-use lib.Seq.{getD-set-same}
+use lib.ListN.{length, getD, set, length-set, length-append, List·getD-eq-default, List·getD-append}
+use native.Mathlib.Decide.{decLt}
+use lib.Seq.{getD-set-same, getD-at}
 use lib.Bits.{bitOr}
 use Rattle.model.specs.Sets.{has}
 use Rattle.model.specs.Policy.{roles, members, takes}
-use Rattle.model.specs.Meaning.{Closed, gather, grown, steps, rounds, meaning}
+use Rattle.model.specs.Meaning.{Closed, gather, grown, steps, memberSets, rounds, meaning}
 use Rattle.model.proofs.Sets.{has-zero, has-or-l, has-or-r, or-has}
 use Rattle.model.proofs.Below.{last-or}
 use Rattle.model.proofs.Enough.{Still, enough}
@@ -19,10 +20,19 @@ use Rattle.model.proofs.Enough.{Still, enough}
 abbrev pub In : List ℕ → ℕ → ℕ → Type 0
 In w p r = has (getD w r 0) p ≡ true
 
-empty-row : (n r : ℕ) → _≡_ {A = ℕ} (getD (replicate n 0) r 0) 0
-empty-row zero r = refl
-empty-row (suc n) zero = refl
-empty-row (suc n) (suc r) = empty-row n r
+-- row r of the first sets is the members of role r
+pub members-length : (s : List ℕ) (n : ℕ) → length (memberSets s n) ≡ n
+unfolding memberSets
+members-length s zero = refl
+members-length s (suc n) = length-append (memberSets s n) _ ∙ let e = members-length s n in omega arith
+
+members-row : (s : List ℕ) (n r : ℕ) → r < n → getD (memberSets s n) r 0 ≡ members s r
+unfolding memberSets
+members-row s zero r l = absurd (omega arith)
+members-row s (suc n) r l = ⊎-elim
+    (λ e. rw e (getD-at (memberSets s n) (members s n) [] 0 n (members-length s n)))
+    (λ m. List·getD-append (memberSets s n) _ 0 r (rw members-length m) ∙ members-row s n r m)
+    (last-or n r l)
 
 -- what is in a row once row i is set to x: the old, or x
 set-in : (w : List ℕ) (i x p r : ℕ) → In (set w i x) p r → In w p r ⊎ ((r ≡ i) × (has x p ≡ true))
@@ -38,6 +48,14 @@ set-keeps (y ∷ w) zero x p f zero h = f h
 set-keeps (y ∷ w) zero x p f (suc r) h = h
 set-keeps (y ∷ w) (suc i) x p f zero h = h
 set-keeps (y ∷ w) (suc i) x p f (suc r) h = set-keeps w i x p f r h
+
+-- whoever is in a row's set is in a row that there is
+row-inside : (w : List ℕ) (r p : ℕ) → In w p r → r < length w
+row-inside w r p h = go (decLt r (length w))
+  where
+    go : Dec (r < length w) → r < length w
+    go (yes l) = l
+    go (no k) = let q : length w ≤ r = omega arith in absurd (true≢false (sym h ∙ rw (List·getD-eq-default w 0 {n = r} q) (has-zero p)))
 
 set-puts : (w : List ℕ) (i x p : ℕ) → i < length w → has x p ≡ true → In (set w i x) p i
 set-puts w i x p l h = rw (getD-set-same w i x 0) h
@@ -75,7 +93,7 @@ module _ (s : List ℕ) where
 
   length-rounds : (n : ℕ) → length (rounds s n) ≡ roles s
   unfolding rounds
-  length-rounds zero = length-replicate (roles s) 0
+  length-rounds zero = members-length s (roles s)
   length-rounds (suc n) = length-steps (rounds s n) (roles s) ∙ length-rounds n
 
 -- from here on one principal p at a time
@@ -83,26 +101,23 @@ module _ (s : List ℕ) (p : ℕ) where
   -- why a step puts p into row r, where H says which rows have p
   data Due (H : ℕ → Type 0) (r : ℕ) : Type 0 where
     before : H r → Due H r
-    member : has (members s r) p ≡ true → Due H r
     taken : {j : ℕ} → j < roles s → has (takes s r) j ≡ true → H j → Due H r
 
   due-mono : {H K : ℕ → Type 0} → ((j : ℕ) → H j → K j) → {r : ℕ} → Due H r → Due K r
   due-mono f {r} (before h) = before (f r h)
-  due-mono f (member h) = member h
   due-mono f (taken {j = j} l t h) = taken l t (f j h)
 
   -- a step puts p in exactly where it is due: nothing below looks into `grown`
   due-grown : (w : List ℕ) (r : ℕ) → Due (In w p) r → has (grown s w r) p ≡ true
   unfolding grown
-  due-grown w r (before h) = has-or-l _ (gather w (takes s r) (roles s)) p (has-or-l (getD w r 0) (members s r) p h)
-  due-grown w r (member h) = has-or-l _ (gather w (takes s r) (roles s)) p (has-or-r (getD w r 0) (members s r) p h)
-  due-grown w r (taken {j = j} l t h) = has-or-r (bitOr (getD w r 0) (members s r)) _ p (gather-has w (takes s r) p (roles s) j l t h)
+  due-grown w r (before h) = has-or-l (getD w r 0) (gather w (takes s r) (roles s)) p h
+  due-grown w r (taken {j = j} l t h) = has-or-r (getD w r 0) _ p (gather-has w (takes s r) p (roles s) j l t h)
 
   grown-due : (w : List ℕ) (r : ℕ) → has (grown s w r) p ≡ true → Due (In w p) r
   unfolding grown
-  grown-due w r h = ⊎-elim (λ a. ⊎-elim before member (or-has (getD w r 0) (members s r) p a))
+  grown-due w r h = ⊎-elim before
       (λ a. let (j, l, t, k) = has-gather w (takes s r) p (roles s) a in taken l t k)
-      (or-has (bitOr (getD w r 0) (members s r)) (gather w (takes s r) (roles s)) p h)
+      (or-has (getD w r 0) (gather w (takes s r) (roles s)) p h)
 
   -- steps in place: what was in stays, what is due comes in, and only what is due
   steps-keep : (w : List ℕ) (n r : ℕ) → In w p r → In (steps s w n) p r
@@ -126,10 +141,13 @@ module _ (s : List ℕ) (p : ℕ) where
       (λ (e, a). rw e (closed n l (due-mono (steps-least H closed w f n (omega arith)) (grown-due (steps s w n) n a))))
       (set-in (steps s w n) n _ p r h)
 
-  rounds-least : (H : ℕ → Type 0) → ((r : ℕ) → r < roles s → Due H r → H r) → (n r : ℕ) → In (rounds s n) p r → H r
+  rounds-least : (H : ℕ → Type 0) → ((r : ℕ) → r < roles s → has (members s r) p ≡ true → H r) → ((r : ℕ) → r < roles s → Due H r → H r)
+      → (n r : ℕ) → In (rounds s n) p r → H r
   unfolding rounds
-  rounds-least H closed zero r h = absurd (true≢false (sym h ∙ rw (empty-row (roles s) r) (has-zero p)))
-  rounds-least H closed (suc n) r h = steps-least H closed (rounds s n) (rounds-least H closed n) (roles s) (omega arith) r h
+  rounds-least H own closed zero r h =
+      let l : r < roles s = rw members-length at (row-inside (memberSets s (roles s)) r p h) in
+      own r l (rw (members-row s (roles s) r l) at h)
+  rounds-least H own closed (suc n) r h = steps-least H closed (rounds s n) (rounds-least H own closed n) (roles s) (omega arith) r h
 
   -- whether p is in row r after n rounds
   After : ℕ → ℕ → Bool
@@ -139,6 +157,11 @@ module _ (s : List ℕ) (p : ℕ) where
   unfolding After rounds
   after-keep n r h = steps-keep (rounds s n) (roles s) r h
 
+  after-members : (n r : ℕ) → r < roles s → has (members s r) p ≡ true → In (rounds s n) p r
+  unfolding rounds After
+  after-members zero r l h = rw (members-row s (roles s) r l) h
+  after-members (suc n) r l h = after-keep n r (after-members n r l h)
+
   -- a round that adds nothing had all that is due
   still-closed : (n : ℕ) → Still (roles s) (After n) (After (suc n)) → (r : ℕ) → r < roles s → Due (In (rounds s n) p) r → In (rounds s n) p r
   unfolding After rounds
@@ -147,20 +170,20 @@ module _ (s : List ℕ) (p : ℕ) where
   meaning-due : (r : ℕ) → r < roles s → Due (λ j. has (meaning s j) p ≡ true) r → has (meaning s r) p ≡ true
   unfolding After meaning
   meaning-due = still-closed (roles s) (enough (roles s) After after-keep
-      (λ n q r l h. after-keep n r (rounds-least (In (rounds s n) p) (still-closed n q) (suc (suc n)) r h)))
+      (λ n q r l h. after-keep n r (rounds-least (In (rounds s n) p) (after-members n) (still-closed n q) (suc (suc n)) r h)))
 
 -- the meanings are closed
 pub meaning-closed : (s : List ℕ) → Closed s (λ r p. has (meaning s r) p ≡ true)
-meaning-closed s = record { own = λ r p l h. meaning-due s p r l (member h); taken = λ r j p l k t h. meaning-due s p r l (taken k t h) }
+unfolding meaning
+meaning-closed s = record { own = λ r p. after-members s p (roles s) r; taken = λ r j p l k t h. meaning-due s p r l (taken k t h) }
 
 -- and no closed sets hold less
 pub meaning-least : (s : List ℕ) (Holds : ℕ → ℕ → Type 0) → Closed s Holds → (r p : ℕ) → has (meaning s r) p ≡ true → Holds r p
 unfolding meaning
-meaning-least s Holds c r p h = rounds-least s p (λ j. Holds j p) closed (roles s) r h
+meaning-least s Holds c r p h = rounds-least s p (λ j. Holds j p) (λ j. c .own j p) closed (roles s) r h
   where
     closed : (j : ℕ) → j < roles s → Due s p (λ i. Holds i p) j → Holds j p
     closed j l (before k) = k
-    closed j l (member k) = c .own j p l k
     closed j l (taken {j = i} m t k) = c .taken j i p l m t k
 
 -- a role that there is not means nobody

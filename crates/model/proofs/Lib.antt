@@ -1,5 +1,6 @@
 pub mod Below
 pub mod Number
+pub mod Truth
 pub mod Sets
 pub mod Bytes
 pub mod Accepted
@@ -7,5 +8,12 @@ pub mod Fixed
 pub mod Enough
 pub mod Least
 pub mod Meaning
+pub mod Beyond
 pub mod Mutation
+pub mod Order
+pub mod Semantics
+pub mod Verdict
+pub mod Fits
+pub mod Reading
+pub mod FlowParts
 pub mod Examples

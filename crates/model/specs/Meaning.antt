@@ -1,10 +1,10 @@
 -- The meaning of a role: the least sets where each role holds its members and all that the roles it takes hold.
 use Prim.Native.Nat.{ℕ, zero, suc, _<_}
 use mathlib.Core.Path.{_≡_}
-use mathlib.Core.List.{List, [], _∷_}
+use mathlib.Core.List.{List, [], _∷_, _++_}
 use mathlib.Core.Bool.{Bool, true, false, cond}
 use lib.Dec.{eqb, ltb}
-use lib.ListN.{length, getD, set, replicate}
+use lib.ListN.{length, getD, set}
 use lib.Bits.{bitOr}
 use Rattle.model.specs.Number.{accepted, noSuchRole}
 use Rattle.model.specs.Sets.{has}
@@ -20,18 +20,23 @@ unfoldable pub gather : List ℕ → ℕ → ℕ → ℕ
 gather w row zero = 0
 gather w row (suc n) = cond (has row n) (bitOr (gather w row n) (getD w n 0)) (gather w row n)
 
--- what role i holds once it has its members and what its taken roles hold in w
+-- what role i holds once it has what its taken roles hold in w
 unfoldable pub grown : List ℕ → List ℕ → ℕ → ℕ
-grown s w i = bitOr (bitOr (getD w i 0) (members s i)) (gather w (takes s i) (roles s))
+grown s w i = bitOr (getD w i 0) (gather w (takes s i) (roles s))
 
 -- the first n rows grown in turn, in place; a round is all rows
 unfoldable pub steps : List ℕ → List ℕ → ℕ → List ℕ
 steps s w zero = w
 steps s w (suc n) = set (steps s w n) n (grown s (steps s w n) n)
 
--- n rounds from empty sets
+-- the members of the first n roles
+unfoldable pub memberSets : List ℕ → ℕ → List ℕ
+memberSets s zero = []
+memberSets s (suc n) = memberSets s n ++ (members s n ∷ [])
+
+-- n rounds from the members
 unfoldable pub rounds : List ℕ → ℕ → List ℕ
-rounds s zero = replicate (roles s) 0
+rounds s zero = memberSets s (roles s)
 rounds s (suc n) = steps s (rounds s n) (roles s)
 
 -- the meaning of role r: after as many rounds as there are roles nothing is left to add

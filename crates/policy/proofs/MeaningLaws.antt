@@ -2,20 +2,20 @@
 use mathlib.Core.Path.{_≡_, refl, sym, ap, _∙_}
 use mathlib.Core.Logic.{_⊎_, inl, inr, ⊎-elim}
 use Prim.Native.Nat.{ℕ, zero, suc, _+_, _-_, _^_, _<_, _≤_}
-use mathlib.Core.List.{List, [], _∷_}
+use mathlib.Core.List.{List, [], _∷_, _++_}
 use mathlib.Core.Bool.{Bool, true, false, true≢false}
 use native.Mathlib.Omega.{arith}
 use native.Mathlib.Numerals.{add-one}
-use lib.Bits.{bitOr, or-zero-l, or-zero-r}
-use lib.ListN.{length, getD, set, take, replicate, length-set, length-replicate}
-use lib.Seq.{set-getD}
+use lib.Bits.{bitOr, or-zero-r}
+use lib.ListN.{length, getD, set, take, length-set}
+use lib.Seq.{set-getD, take-suc-set, take-all, length-take-le}
 use borrow.Author.Tests.{lt-ltb, le-ltb, eq-eqb, ne-eqb}
 use Rattle.model.specs.Sets.{has, without}
 use Rattle.model.specs.Policy.{roles, rowAt, members, takes, Accepted, policyNumber}
-use Rattle.model.specs.Meaning.{gather, grown, steps, rounds, meaning, answer, meaningOf}
+use Rattle.model.specs.Meaning.{gather, grown, steps, memberSets, rounds, meaning, answer, meaningOf}
 use Rattle.model.proofs.Accepted.{accepted-facts}
 use Rattle.model.proofs.Sets.{has-zero, has-or-l, has-or-r, or-has, same-sets, has-below, has-without, without-has, without-le}
-use Rattle.model.proofs.Least.{In, gather-has, has-gather}
+use Rattle.model.proofs.Least.{In, gather-has, has-gather, members-length}
 use Rattle.policy.proofs.SetLaws.{next-without}
 use Rattle.policy.proofs.TakesLaws.{same-or, smaller}
 use Rattle.policy.specs.Still.{Still}
@@ -46,16 +46,12 @@ gather-out w row n j fits m = same-sets _ _ there back
 gather-none : (w : List ℕ) (n : ℕ) → gather w 0 n ≡ 0
 gather-none w n = same-sets _ _ (λ p h. let (x, l, t, k) = has-gather w 0 p n h in absurd (true≢false (sym t ∙ has-zero x))) (λ p h. absurd (true≢false (sym h ∙ has-zero p)))
 
-module _ (w : List ℕ) (row n : ℕ) where
-  pub union-start : bitOr 0 (gather w row n) ≡ gather w row n
-  union-start = or-zero-l (gather w row n)
+module _ (w : List ℕ) (n u rest all : ℕ) (e : bitOr u (gather w rest n) ≡ all) where
+  pub union-turn : (j next : ℕ) → rest < 2 ^ n → has rest j ≡ true → next ≡ without rest j → bitOr (bitOr u (getD w j 0)) (gather w next n) ≡ all
+  union-turn j next fits m f = rw f (or-assoc u (getD w j 0) (gather w (without rest j) n) ∙ ap (λ (x : ℕ). bitOr u x) (sym (gather-out w rest n j fits m)) ∙ e)
 
-  module _ (u rest : ℕ) (e : bitOr u (gather w rest n) ≡ gather w row n) where
-    pub union-turn : (j next : ℕ) → rest < 2 ^ n → has rest j ≡ true → next ≡ without rest j → bitOr (bitOr u (getD w j 0)) (gather w next n) ≡ gather w row n
-    union-turn j next fits m f = rw f (or-assoc u (getD w j 0) (gather w (without rest j) n) ∙ ap (λ (x : ℕ). bitOr u x) (sym (gather-out w rest n j fits m)) ∙ e)
-
-    pub union-done : rest ≤ 0 → u ≡ gather w row n
-    union-done h = let z : rest ≡ 0 = omega arith in sym (or-zero-r u) ∙ ap (λ (x : ℕ). bitOr u x) (sym (gather-none w n)) ∙ rw z at e
+  pub union-done : rest ≤ 0 → u ≡ all
+  union-done h = let z : rest ≡ 0 = omega arith in sym (or-zero-r u) ∙ ap (λ (x : ℕ). bitOr u x) (sym (gather-none w n)) ∙ rw z at e
 
 pub union-inside : (w : List ℕ) (rest j : ℕ) → rest < 2 ^ length w → has rest j ≡ true → j < length w
 union-inside w rest j = has-below (length w) rest j
@@ -63,7 +59,7 @@ union-inside w rest j = has-below (length w) rest j
 pub union-fits : (n rest j next : ℕ) → rest < 2 ^ n → next ≡ without rest j → next < 2 ^ n
 union-fits n rest j next h e = rw e (omega (arith, without-le rest j))
 
-pub ruleset unions = (union-start, union-turn, union-done, union-inside, union-fits, smaller, next-without)
+pub ruleset unions = (union-turn, union-done, union-inside, union-fits, smaller, next-without)
 
 -- a round, row by row
 module _ (s old : List ℕ) where
@@ -76,10 +72,10 @@ module _ (s old : List ℕ) where
   unfolding steps
   steps-none = refl
 
-  pub steps-more : (w : List ℕ) (i m t u : ℕ) → w ≡ steps s old i → length w ≡ roles s → m ≡ members s i → t ≡ takes s i → u ≡ gather w t (length w)
-      → set w i (bitOr (bitOr (getD w i 0) m) u) ≡ steps s old (i + 1)
+  pub steps-more : (w : List ℕ) (i t u : ℕ) → w ≡ steps s old i → length w ≡ roles s → t ≡ takes s i → u ≡ bitOr (getD w i 0) (gather w t (length w))
+      → set w i u ≡ steps s old (i + 1)
   unfolding steps grown
-  steps-more w i m t u e l p q g = rw (g, p, q, l, e, add-one i)
+  steps-more w i t u e l q g = rw (g, q, l, e, add-one i)
 
   pub steps-done : (w : List ℕ) (i : ℕ) → w ≡ steps s old i → length w ≡ roles s → i ≤ length w → length w ≤ i → w ≡ steps s old (roles s)
   steps-done w i e l h g = let n : i ≡ roles s = omega arith in e ∙ rw n
@@ -107,15 +103,27 @@ module _ (s : List ℕ) (ok : Accepted s) where
 
 pub ruleset round-laws = (row-there, row-fits, steps-none, steps-more, steps-done, still-none, still-not, still-same)
 
+-- the sets to start from, row by row
+module _ (s : List ℕ) where
+  pub start-none : (w : List ℕ) → take 0 w ≡ memberSets s 0
+  unfolding memberSets
+  start-none w = refl
+
+  pub start-more : (w : List ℕ) (i m : ℕ) → take i w ≡ memberSets s i → i < length w → m ≡ members s i → take (i + 1) (set w i m) ≡ memberSets s (i + 1)
+  unfolding memberSets
+  start-more w i m e l p = rw (add-one i, p) (take-suc-set w i (members s i) l ∙ ap (λ (x : List ℕ). x ++ (members s i ∷ [])) e)
+
+  pub start-done : (w : List ℕ) (i : ℕ) → take i w ≡ memberSets s i → length w ≡ roles s → i ≤ length w → length w ≤ i → w ≡ rounds s 0
+  unfolding rounds
+  start-done w i e l h g = let n : i ≡ roles s = omega arith in sym (take-all i w g) ∙ e ∙ rw n
+
+pub ruleset start-laws = (start-none, start-more, start-done, row-there)
+
 -- the rounds
 module _ (s : List ℕ) where
-  pub rounds-none : (w : List ℕ) → w ≡ replicate (roles s) 0 → w ≡ rounds s 0
-  unfolding rounds
-  rounds-none w e = e
-
   rounds-length : (n : ℕ) → length (rounds s n) ≡ roles s
   unfolding rounds
-  rounds-length zero = length-replicate (roles s) 0
+  rounds-length zero = members-length s (roles s)
   rounds-length (suc n) = length-steps s (rounds s n) (roles s) ∙ rounds-length n
 
   pub length-rounds : (w : List ℕ) (n : ℕ) → w ≡ rounds s n → length w ≡ roles s
@@ -149,27 +157,16 @@ module _ (s : List ℕ) where
   pub rounds-inside : (w : List ℕ) (r : ℕ) → w ≡ rounds s (roles s) → r < roles s → r < length w
   rounds-inside w r e h = omega (arith, length-rounds w (roles s) e)
 
-pub ruleset rounds-laws = (rounds-none, length-rounds, rounds-more, rounds-below, rounds-done, rounds-still)
+pub ruleset rounds-laws = (length-rounds, rounds-more, rounds-below, rounds-done, rounds-still)
 
-pub ruleset least-laws = (rounds-meaning, rounds-inside)
+pub ruleset least-laws = (rounds-meaning, rounds-inside, length-rounds)
 
--- the part of 64 empty sets that a policy's roles need
-abbrev pub empties : ℕ → List ℕ
-empties n = replicate n 0
+-- the part of 64 sets that a policy's roles need
+pub part-count : (w : List ℕ) (n : ℕ) → length w ≡ 64 → n ≤ 64 → n ≡ length (take n w)
+part-count w n l h = sym (length-take-le n w (omega arith))
 
-take-zeros : (n m : ℕ) → n ≤ m → take n (empties m) ≡ empties n
-take-zeros zero m h = refl
-take-zeros (suc n) zero h = absurd (omega arith)
-take-zeros (suc n) (suc m) h = ap (λ (l : List ℕ). 0 ∷ l) (take-zeros n m (omega arith))
-
-pub zeros-count : (n : ℕ) → n ≤ 64 → n ≡ length (take n (empties 64))
-zeros-count n h = sym (ap length (take-zeros n 64 h) ∙ length-replicate n 0)
-
-pub zeros-length : (n k : ℕ) → n ≤ 64 → n ≡ k → length (take n (empties 64)) ≡ k
-zeros-length n k h e = sym (zeros-count n h) ∙ e
-
-pub zeros-are : (n k : ℕ) → n ≤ 64 → n ≡ k → take n (empties 64) ≡ empties k
-zeros-are n k h e = take-zeros n 64 h ∙ rw e
+pub part-length : (w : List ℕ) (n k : ℕ) → length w ≡ 64 → n ≤ 64 → n ≡ k → length (take n w) ≡ k
+part-length w n k l h e = sym (part-count w n l h) ∙ e
 
 -- asking for a meaning
 module _ (s : List ℕ) (r k : ℕ) (p : k ≡ policyNumber s) where
@@ -200,4 +197,4 @@ module _ (s : List ℕ) (r k : ℕ) (p : k ≡ policyNumber s) where
       unfolding meaningOf
       asked-found h x y = let l : r < roles s = omega arith in rw y (simp (eq-eqb _ _ (sym p ∙ z), lt-ltb _ _ l))
 
-pub ruleset asked = (asked-refused, asked-seven, asked-accepted, asked-few, asked-none, asked-found, zeros-count, zeros-length, zeros-are)
+pub ruleset asked = (asked-refused, asked-seven, asked-accepted, asked-few, asked-none, asked-found, part-count, part-length)

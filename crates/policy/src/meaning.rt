@@ -1,9 +1,10 @@
 // The meaning of a role: the least sets where each role holds its members and all that the roles it takes hold.
 ghost use mathlib.Core.Path.{_≡_};
 ghost use Prim.Native.Nat.{ℕ, _+_, _^_, _<_, _≤_};
-ghost use lib.ListN.{length, replicate};
-ghost use Rattle.model.specs.Policy.{roles, rowAt, Accepted};
-ghost use Rattle.model.specs.Meaning.{gather, grown, steps, rounds, meaning, answer, meaningOf};
+ghost use lib.Bits.{bitOr};
+ghost use lib.ListN.{length};
+ghost use Rattle.model.specs.Policy.{roles, Accepted};
+ghost use Rattle.model.specs.Meaning.{gather, steps, rounds, meaning, answer, meaningOf};
 ghost use Rattle.policy.specs.Still.{Still};
 use super::bytes;
 use super::check;
@@ -17,12 +18,12 @@ pub struct Meaning {
     pub bits: u32,
 }
 
-// The union of the sets of the roles in `row`. Only the roles that are in it are visited.
-fn union_of(sets: &[u32], row: u64) -> u32
+// `own` with the sets of the roles in `row`. Only the roles that are in it are visited.
+fn with_taken(sets: &[u32], own: u32, row: u64) -> u32
     requires { ⌜ row < 2 ^ length (now sets) ⌝ }
-    ensures { λ r. ⌜ r ≡ gather (now (sets .entry)) row (length (now (sets .entry))) ⌝ }
+    ensures { λ r. ⌜ r ≡ bitOr own (gather (now (sets .entry)) row (length (now (sets .entry)))) ⌝ }
 {
-    let mut union = 0;
+    let mut union = own;
     let mut rest = row;
     while 0 < rest {
         let j = sets::lowest(rest);
@@ -42,7 +43,7 @@ fn round(s: &[u8], sets: &mut [u32]) -> bool
     let mut i = 0;
     while i < sets.len() {
         let old = sets[i];
-        let new = old | rows::members_of(s, i) | union_of(sets, rows::takes_of(s, i));
+        let new = with_taken(sets, old, rows::takes_of(s, i));
         sets[i] = new;
         if new != old {
             grew = true;
@@ -52,9 +53,21 @@ fn round(s: &[u8], sets: &mut [u32]) -> bool
     grew
 }
 
+// The sets to start from: each role's members.
+fn start_sets(s: &[u8], sets: &mut [u32])
+    requires { ⌜ (length (now sets) ≡ roles (now s)) × Accepted (now s) ⌝ }
+    ensures { λ _. ⌜ now (sets .exit) ≡ rounds (now (s .entry)) 0 ⌝ }
+{
+    let mut i = 0;
+    while i < sets.len() {
+        sets[i] = rows::members_of(s, i);
+        i += 1;
+    }
+}
+
 // As many rounds as there are roles, or fewer where a round adds nothing.
 fn all_rounds(s: &[u8], sets: &mut [u32])
-    requires { ⌜ (length (now sets) ≡ roles (now s)) × (now sets ≡ replicate (roles (now s)) 0) × Accepted (now s) ⌝ }
+    requires { ⌜ (length (now sets) ≡ roles (now s)) × (now sets ≡ rounds (now s) 0) × Accepted (now s) ⌝ }
     ensures { λ _. ⌜ now (sets .exit) ≡ rounds (now (s .entry)) (roles (now (s .entry))) ⌝ }
 {
     let mut n = 0;
@@ -67,11 +80,12 @@ fn all_rounds(s: &[u8], sets: &mut [u32])
     }
 }
 
-// The least set of a role that there is, from empty sets.
+// The least set of a role that there is.
 fn least_set(s: &[u8], sets: &mut [u32], role: usize) -> u32
-    requires { ⌜ (length (now sets) ≡ roles (now s)) × (now sets ≡ replicate (roles (now s)) 0) × Accepted (now s) × (role < roles (now s)) ⌝ }
+    requires { ⌜ (length (now sets) ≡ roles (now s)) × Accepted (now s) × (role < roles (now s)) ⌝ }
     ensures { λ r. ⌜ r ≡ meaning (now (s .entry)) role ⌝ }
 {
+    start_sets(s, sets);
     all_rounds(s, sets);
     sets[role]
 }

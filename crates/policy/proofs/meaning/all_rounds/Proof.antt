@@ -17,7 +17,7 @@ Inv-loop s sets₀ n₀ sets n = (n ≤ length sets) × ((length sets ≡ roles 
 abbrev μ-loop : tie.MeasureT-loop
 μ-loop s sets₀ n₀ sets n = roles s - n
 
--- src/meaning.rt:70:5
+-- src/meaning.rt:73:5
 loop-again : tie.Need-loop-again Inv-loop μ-loop
 loop-again c = (search (needs, rounds-laws), (search (needs, rounds-laws), search (needs, rounds-laws)))
 

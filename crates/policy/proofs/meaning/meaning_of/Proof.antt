@@ -8,9 +8,9 @@ use Rattle.policy.proofs.bytes.wide.Reads as wide-reads
 use Rattle.policy.proofs.check.policy_number.Reads as policy-number-reads
 use Rattle.policy.proofs.meaning.least_set.Reads as least-set-reads
 
--- src/meaning.rt:105:9
+-- src/meaning.rt:109:9
 least-set-requires : tie.Need-least-set-requires
-least-set-requires c κs = (search (needs, asked), search (needs, asked), search (needs, asked), search (needs, asked))
+least-set-requires c κs = (search (needs, asked), search (needs, asked), search (needs, asked))
 
 pub meaning-of-spec : {M : Type 1} → statement M
 meaning-of-spec =

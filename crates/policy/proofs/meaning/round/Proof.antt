@@ -12,8 +12,7 @@ use Rattle.policy.proofs.meaning.round.Statement.{statement}
 use Rattle.policy.proofs.meaning.round.Tie as tie
 use Rattle.policy.proofs.meaning.round.Reads as reads
 use Rattle.policy.proofs.meaning.round.Lts as lts
-use Rattle.policy.proofs.meaning.union_of.Reads as union-of-reads
-use Rattle.policy.proofs.rows.members_of.Reads as members-of-reads
+use Rattle.policy.proofs.meaning.with_taken.Reads as with-taken-reads
 use Rattle.policy.proofs.rows.takes_of.Reads as takes-of-reads
 
 abbrev Inv-loop : tie.InvT-loop
@@ -22,7 +21,7 @@ Inv-loop s sets₀ grew₀ i₀ sets grew i = (i ≤ length sets) × ((length se
 abbrev μ-loop : tie.MeasureT-loop
 μ-loop s sets₀ grew₀ i₀ sets grew i = length sets₀ - i
 
--- src/meaning.rt:52:5
+-- src/meaning.rt:43:5
 loop-again : tie.Need-loop-again Inv-loop μ-loop
 loop-again c = (simp length-set (omega arith), (simp length-set (omega arith), (search (needs, round-laws), ⊎-elim (λ w. search (needs, round-laws)) (λ w. search (needs, round-laws)) (c .if1 .came))))
 
@@ -33,15 +32,14 @@ round-spec =
     Inv-loop
     μ-loop
     (λ c. search (needs, round-laws))
-    (λ c. search needs)
-    (λ c. search needs)
+    (λ c. search (needs, round-laws))
+    (λ c. search (needs, round-laws))
     (λ c κs. search (needs, round-laws))
     (λ c κs. search (needs, round-laws))
-    (λ c κs. search (needs, round-laws))
-    (λ c. search needs)
-    (λ c. search needs)
-    (λ c. search needs)
-    (λ c. search needs)
+    (λ c. search (needs, round-laws))
+    (λ c. search (needs, round-laws))
+    (λ c. search (needs, round-laws))
+    (λ c. search (needs, round-laws))
     loop-again
     (λ c. search needs)
     (λ c. search (needs, round-laws)))
