@@ -5,7 +5,7 @@ use mathlib.Core.List.{List, [], _∷_, _++_}
 use Rattle.model.specs.Number.{accepted, flowReading, flowTrust, fine, refused, firstBelow}
 use Rattle.model.specs.Bytes.{word, startsWith}
 use Rattle.model.specs.Policy.{policyNumber, headNumber, rowNumber, principalNumber, ownerNumber, pairNumber, grantsNumber, takesNumber, takenNumber, viewers, trusters, members, takes, watchers, mayTake, mayHold}
-use Rattle.model.specs.Meaning.{gather, grown, steps, memberSets, rounds, meaning, answer, meaningOf}
+use Rattle.model.specs.Meaning.{gather, grown, steps, rounds, column, meanings, meaning, answer, meaningOf}
 use Rattle.model.specs.Mutation.{allowed}
 use Rattle.model.specs.Program.{andThen, readByte, readBelow, readMark, readMany, atomAt, readAtom, readLabel, readQuery, mutationAt, readMutation, binaryAt, exprAt, readExpr, blockOf, assignAt, blockAt, ifAt, whileAt, queryAt, updateAt, transactionAt, stmtAt, readStmt, readBody, readProgram}
 use Rattle.model.specs.Order.{fixedSet, includes, base, atMost, joinAtMost}
@@ -72,7 +72,7 @@ pub record WorkedExamples : Type 0 where
   pub query-refused : programVerdict policyOne queryProgram ≡ refused flowReading 15
 
 pub worked-examples : WorkedExamples
-unfolding firstBelow word startsWith policyNumber headNumber rowNumber principalNumber ownerNumber pairNumber grantsNumber takesNumber takenNumber viewers trusters members takes watchers mayTake mayHold gather grown steps memberSets rounds meaning meaningOf allowed andThen readByte readBelow readMark readMany atomAt readAtom readLabel readQuery mutationAt readMutation binaryAt exprAt readExpr blockOf assignAt blockAt ifAt whileAt queryAt updateAt transactionAt stmtAt readStmt readBody readProgram fixedSet includes base atMost joinAtMost labelAtom label exprLabel atomLabel queryLabel listLabel assigned rolesOf mutated eachIn listedIn allAllowed mayAssign mayUpdate flow bodyVerdict programVerdict
+unfolding firstBelow word startsWith policyNumber headNumber rowNumber principalNumber ownerNumber pairNumber grantsNumber takesNumber takenNumber viewers trusters members takes watchers mayTake mayHold gather grown steps rounds column meanings meaning meaningOf allowed andThen readByte readBelow readMark readMany atomAt readAtom readLabel readQuery mutationAt readMutation binaryAt exprAt readExpr blockOf assignAt blockAt ifAt whileAt queryAt updateAt transactionAt stmtAt readStmt readBody readProgram fixedSet includes base atMost joinAtMost labelAtom label exprLabel atomLabel queryLabel listLabel assigned rolesOf mutated eachIn listedIn allAllowed mayAssign mayUpdate flow bodyVerdict programVerdict
 worked-examples =
     record {
       policy-E = refl;

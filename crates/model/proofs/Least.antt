@@ -11,7 +11,7 @@ use lib.Seq.{getD-set-same, getD-at}
 use lib.Bits.{bitOr}
 use Rattle.model.specs.Sets.{has}
 use Rattle.model.specs.Policy.{roles, members, takes}
-use Rattle.model.specs.Meaning.{Closed, gather, grown, steps, memberSets, rounds, meaning}
+use Rattle.model.specs.Meaning.{Closed, gather, grown, steps, rounds, column, meanings, meaning}
 use Rattle.model.proofs.Sets.{has-zero, has-or-l, has-or-r, or-has}
 use Rattle.model.proofs.Below.{last-or}
 use Rattle.model.proofs.Enough.{Still, enough}
@@ -20,18 +20,18 @@ use Rattle.model.proofs.Enough.{Still, enough}
 abbrev pub In : List ℕ → ℕ → ℕ → Type 0
 In w p r = has (getD w r 0) p ≡ true
 
--- row r of the first sets is the members of role r
-pub members-length : (s : List ℕ) (n : ℕ) → length (memberSets s n) ≡ n
-unfolding memberSets
-members-length s zero = refl
-members-length s (suc n) = length-append (memberSets s n) _ ∙ let e = members-length s n in omega arith
+-- a column has f r at place r
+pub column-length : (f : ℕ → ℕ) (n : ℕ) → length (column f n) ≡ n
+unfolding column
+column-length f zero = refl
+column-length f (suc n) = length-append (column f n) _ ∙ let e = column-length f n in omega arith
 
-members-row : (s : List ℕ) (n r : ℕ) → r < n → getD (memberSets s n) r 0 ≡ members s r
-unfolding memberSets
-members-row s zero r l = absurd (omega arith)
-members-row s (suc n) r l = ⊎-elim
-    (λ e. rw e (getD-at (memberSets s n) (members s n) [] 0 n (members-length s n)))
-    (λ m. List·getD-append (memberSets s n) _ 0 r (rw members-length m) ∙ members-row s n r m)
+pub column-at : (f : ℕ → ℕ) (n r : ℕ) → r < n → getD (column f n) r 0 ≡ f r
+unfolding column
+column-at f zero r l = absurd (omega arith)
+column-at f (suc n) r l = ⊎-elim
+    (λ e. rw e (getD-at (column f n) (f n) [] 0 n (column-length f n)))
+    (λ m. List·getD-append (column f n) _ 0 r (rw column-length m) ∙ column-at f n r m)
     (last-or n r l)
 
 -- what is in a row once row i is set to x: the old, or x
@@ -85,108 +85,137 @@ module _ (w : List ℕ) (row p : ℕ) where
       (λ a. let (j, l, t, k) = has-gather n a in (j, omega arith, t, k))
       (λ t k. (n, omega arith, t, k)) h
 
-module _ (s : List ℕ) where
-  length-steps : (w : List ℕ) (n : ℕ) → length (steps s w n) ≡ length w
+module _ (t : List ℕ) where
+  length-steps : (w : List ℕ) (n : ℕ) → length (steps t w n) ≡ length w
   unfolding steps
   length-steps w zero = refl
   length-steps w (suc n) = simp length-set (length-steps w n)
 
-  length-rounds : (n : ℕ) → length (rounds s n) ≡ roles s
+  length-rounds : (m : List ℕ) → length m ≡ length t → (n : ℕ) → length (rounds t m n) ≡ length t
   unfolding rounds
-  length-rounds zero = members-length s (roles s)
-  length-rounds (suc n) = length-steps (rounds s n) (roles s) ∙ length-rounds n
+  length-rounds m same zero = same
+  length-rounds m same (suc n) = length-steps (rounds t m n) (length t) ∙ length-rounds m same n
 
--- from here on one principal p at a time
-module _ (s : List ℕ) (p : ℕ) where
+-- from here on one principal p at a time, in rows that take by t and have the members m
+module _ (t m : List ℕ) (same : length m ≡ length t) (p : ℕ) where
   -- why a step puts p into row r, where H says which rows have p
   data Due (H : ℕ → Type 0) (r : ℕ) : Type 0 where
     before : H r → Due H r
-    taken : {j : ℕ} → j < roles s → has (takes s r) j ≡ true → H j → Due H r
+    taken : {j : ℕ} → j < length t → has (getD t r 0) j ≡ true → H j → Due H r
 
   due-mono : {H K : ℕ → Type 0} → ((j : ℕ) → H j → K j) → {r : ℕ} → Due H r → Due K r
   due-mono f {r} (before h) = before (f r h)
-  due-mono f (taken {j = j} l t h) = taken l t (f j h)
+  due-mono f (taken {j = j} l b h) = taken l b (f j h)
 
   -- a step puts p in exactly where it is due: nothing below looks into `grown`
-  due-grown : (w : List ℕ) (r : ℕ) → Due (In w p) r → has (grown s w r) p ≡ true
+  due-grown : (w : List ℕ) (r : ℕ) → Due (In w p) r → has (grown t w r) p ≡ true
   unfolding grown
-  due-grown w r (before h) = has-or-l (getD w r 0) (gather w (takes s r) (roles s)) p h
-  due-grown w r (taken {j = j} l t h) = has-or-r (getD w r 0) _ p (gather-has w (takes s r) p (roles s) j l t h)
+  due-grown w r (before h) = has-or-l (getD w r 0) (gather w (getD t r 0) (length t)) p h
+  due-grown w r (taken {j = j} l b h) = has-or-r (getD w r 0) _ p (gather-has w (getD t r 0) p (length t) j l b h)
 
-  grown-due : (w : List ℕ) (r : ℕ) → has (grown s w r) p ≡ true → Due (In w p) r
+  grown-due : (w : List ℕ) (r : ℕ) → has (grown t w r) p ≡ true → Due (In w p) r
   unfolding grown
   grown-due w r h = ⊎-elim before
-      (λ a. let (j, l, t, k) = has-gather w (takes s r) p (roles s) a in taken l t k)
-      (or-has (getD w r 0) (gather w (takes s r) (roles s)) p h)
+      (λ a. let (j, l, b, k) = has-gather w (getD t r 0) p (length t) a in taken l b k)
+      (or-has (getD w r 0) (gather w (getD t r 0) (length t)) p h)
 
   -- steps in place: what was in stays, what is due comes in, and only what is due
-  steps-keep : (w : List ℕ) (n r : ℕ) → In w p r → In (steps s w n) p r
+  steps-keep : (w : List ℕ) (n r : ℕ) → In w p r → In (steps t w n) p r
   unfolding steps
   steps-keep w zero r h = h
-  steps-keep w (suc n) r h = set-keeps (steps s w n) n _ p (λ a. due-grown (steps s w n) n (before a)) r (steps-keep w n r h)
+  steps-keep w (suc n) r h = set-keeps (steps t w n) n _ p (λ a. due-grown (steps t w n) n (before a)) r (steps-keep w n r h)
 
-  steps-put : (w : List ℕ) (n r : ℕ) → r < n → r < length w → Due (In w p) r → In (steps s w n) p r
+  steps-put : (w : List ℕ) (n r : ℕ) → r < n → r < length w → Due (In w p) r → In (steps t w n) p r
   unfolding steps
   steps-put w zero r l k d = absurd (omega arith)
   steps-put w (suc n) r l k d = ⊎-elim
-      (λ e. rw e (set-puts (steps s w n) n _ p (rw length-steps (rw e at k)) (due-grown (steps s w n) n (due-mono (steps-keep w n) (rw e at d)))))
-      (λ m. set-keeps (steps s w n) n _ p (λ a. due-grown (steps s w n) n (before a)) r (steps-put w n r m k d))
+      (λ e. rw e (set-puts (steps t w n) n _ p (rw length-steps (rw e at k)) (due-grown (steps t w n) n (due-mono (steps-keep w n) (rw e at d)))))
+      (λ b. set-keeps (steps t w n) n _ p (λ a. due-grown (steps t w n) n (before a)) r (steps-put w n r b k d))
       (last-or n r l)
 
-  steps-least : (H : ℕ → Type 0) → ((r : ℕ) → r < roles s → Due H r → H r) → (w : List ℕ) → ((r : ℕ) → In w p r → H r)
-      → (n : ℕ) → n ≤ roles s → (r : ℕ) → In (steps s w n) p r → H r
+  steps-least : (H : ℕ → Type 0) → ((r : ℕ) → r < length t → Due H r → H r) → (w : List ℕ) → ((r : ℕ) → In w p r → H r)
+      → (n : ℕ) → n ≤ length t → (r : ℕ) → In (steps t w n) p r → H r
   unfolding steps
   steps-least H closed w f zero l r h = f r h
   steps-least H closed w f (suc n) l r h = ⊎-elim (steps-least H closed w f n (omega arith) r)
-      (λ (e, a). rw e (closed n l (due-mono (steps-least H closed w f n (omega arith)) (grown-due (steps s w n) n a))))
-      (set-in (steps s w n) n _ p r h)
+      (λ (e, a). rw e (closed n l (due-mono (steps-least H closed w f n (omega arith)) (grown-due (steps t w n) n a))))
+      (set-in (steps t w n) n _ p r h)
 
-  rounds-least : (H : ℕ → Type 0) → ((r : ℕ) → r < roles s → has (members s r) p ≡ true → H r) → ((r : ℕ) → r < roles s → Due H r → H r)
-      → (n r : ℕ) → In (rounds s n) p r → H r
+  rounds-least : (H : ℕ → Type 0) → ((r : ℕ) → r < length t → has (getD m r 0) p ≡ true → H r) → ((r : ℕ) → r < length t → Due H r → H r)
+      → (n r : ℕ) → In (rounds t m n) p r → H r
   unfolding rounds
-  rounds-least H own closed zero r h =
-      let l : r < roles s = rw members-length at (row-inside (memberSets s (roles s)) r p h) in
-      own r l (rw (members-row s (roles s) r l) at h)
-  rounds-least H own closed (suc n) r h = steps-least H closed (rounds s n) (rounds-least H own closed n) (roles s) (omega arith) r h
+  rounds-least H own closed zero r h = own r (rw same at (row-inside m r p h)) h
+  rounds-least H own closed (suc n) r h = steps-least H closed (rounds t m n) (rounds-least H own closed n) (length t) (omega arith) r h
 
   -- whether p is in row r after n rounds
   After : ℕ → ℕ → Bool
-  After n r = has (getD (rounds s n) r 0) p
+  After n r = has (getD (rounds t m n) r 0) p
 
   after-keep : (n r : ℕ) → After n r ≡ true → After (suc n) r ≡ true
   unfolding After rounds
-  after-keep n r h = steps-keep (rounds s n) (roles s) r h
+  after-keep n r h = steps-keep (rounds t m n) (length t) r h
 
-  after-members : (n r : ℕ) → r < roles s → has (members s r) p ≡ true → In (rounds s n) p r
+  after-members : (n r : ℕ) → r < length t → has (getD m r 0) p ≡ true → In (rounds t m n) p r
   unfolding rounds After
-  after-members zero r l h = rw (members-row s (roles s) r l) h
+  after-members zero r l h = h
   after-members (suc n) r l h = after-keep n r (after-members n r l h)
 
   -- a round that adds nothing had all that is due
-  still-closed : (n : ℕ) → Still (roles s) (After n) (After (suc n)) → (r : ℕ) → r < roles s → Due (In (rounds s n) p) r → In (rounds s n) p r
+  still-closed : (n : ℕ) → Still (length t) (After n) (After (suc n)) → (r : ℕ) → r < length t → Due (In (rounds t m n) p) r → In (rounds t m n) p r
   unfolding After rounds
-  still-closed n q r l d = q r l (steps-put (rounds s n) (roles s) r l (rw length-rounds l) d)
+  still-closed n q r l d = q r l (steps-put (rounds t m n) (length t) r l (rw (length-rounds t m same n) l) d)
 
-  meaning-due : (r : ℕ) → r < roles s → Due (λ j. has (meaning s j) p ≡ true) r → has (meaning s r) p ≡ true
-  unfolding After meaning
-  meaning-due = still-closed (roles s) (enough (roles s) After after-keep
-      (λ n q r l h. after-keep n r (rounds-least (In (rounds s n) p) (after-members n) (still-closed n q) (suc (suc n)) r h)))
+  all-due : (r : ℕ) → r < length t → Due (In (rounds t m (length t)) p) r → In (rounds t m (length t)) p r
+  unfolding After
+  all-due = still-closed (length t) (enough (length t) After after-keep
+      (λ n q r l h. after-keep n r (rounds-least (In (rounds t m n) p) (after-members n) (still-closed n q) (suc (suc n)) r h)))
 
--- the meanings are closed
-pub meaning-closed : (s : List ℕ) → Closed s (λ r p. has (meaning s r) p ≡ true)
-unfolding meaning
-meaning-closed s = record { own = λ r p. after-members s p (roles s) r; taken = λ r j p l k t h. meaning-due s p r l (taken k t h) }
+-- a policy's columns
+module _ (s : List ℕ) where
+  abbrev ts : List ℕ
+  ts = column (takes s) (roles s)
 
--- and no closed sets hold less
-pub meaning-least : (s : List ℕ) (Holds : ℕ → ℕ → Type 0) → Closed s Holds → (r p : ℕ) → has (meaning s r) p ≡ true → Holds r p
-unfolding meaning
-meaning-least s Holds c r p h = rounds-least s p (λ j. Holds j p) (λ j. c .own j p) closed (roles s) r h
-  where
-    closed : (j : ℕ) → j < roles s → Due s p (λ i. Holds i p) j → Holds j p
-    closed j l (before k) = k
-    closed j l (taken {j = i} m t k) = c .taken j i p l m t k
+  abbrev ms : List ℕ
+  ms = column (members s) (roles s)
 
--- a role that there is not means nobody
-pub meaning-beyond : (s : List ℕ) (r : ℕ) → roles s ≤ r → meaning s r ≡ 0
-unfolding meaning
-meaning-beyond s r l = List·getD-eq-default (rounds s (roles s)) 0 {n = r} (rw length-rounds l)
+  alike : length ms ≡ length ts
+  alike = column-length (members s) (roles s) ∙ sym (column-length (takes s) (roles s))
+
+  count : length ts ≡ roles s
+  count = column-length (takes s) (roles s)
+
+  -- the rounds' last sets are the meanings, however their number is written
+  is-meaning : (n : ℕ) → n ≡ roles s → (r p : ℕ) → In (rounds ts ms n) p r → has (meaning s r) p ≡ true
+  unfolding meanings meaning
+  is-meaning n e r p h = rw e at h
+
+  meaning-is : (n : ℕ) → n ≡ roles s → (r p : ℕ) → has (meaning s r) p ≡ true → In (rounds ts ms n) p r
+  unfolding meanings meaning
+  meaning-is n e r p h = rw e h
+
+  -- the meanings are closed
+  pub meaning-closed : Closed s (λ r p. has (meaning s r) p ≡ true)
+  meaning-closed = record {
+    own = λ r p l h. is-meaning (roles s) refl r p (after-members ts ms alike p (roles s) r (rw count l) (rw (column-at (members s) (roles s) r l) h));
+    taken = λ r j p l k b h. is-meaning (length ts) count r p
+      (all-due ts ms alike p r (rw count l) (taken (rw count k) (rw (column-at (takes s) (roles s) r l) b) (meaning-is (length ts) count j p h)));
+  }
+
+  -- and no closed sets hold less
+  pub meaning-least : (Holds : ℕ → ℕ → Type 0) → Closed s Holds → (r p : ℕ) → has (meaning s r) p ≡ true → Holds r p
+  unfolding meanings meaning
+  meaning-least Holds c r p h = rounds-least ts ms alike p (λ j. Holds j p) own closed (roles s) r h
+    where
+      own : (j : ℕ) → j < length ts → has (getD ms j 0) p ≡ true → Holds j p
+      own j l k = let b : j < roles s = rw count at l in c .own j p b (rw (column-at (members s) (roles s) j b) at k)
+
+      closed : (j : ℕ) → j < length ts → Due ts ms alike p (λ i. Holds i p) j → Holds j p
+      closed j l (before k) = k
+      closed j l (taken {j = i} a b k) =
+          let d : j < roles s = rw count at l in
+          c .taken j i p d (rw count at a) (rw (column-at (takes s) (roles s) j d) at b) k
+
+  -- a role that there is not means nobody
+  pub meaning-beyond : (r : ℕ) → roles s ≤ r → meaning s r ≡ 0
+  unfolding meanings meaning
+  meaning-beyond r l = List·getD-eq-default (rounds ts ms (roles s)) 0 {n = r} (rw (length-rounds ts ms alike (roles s), count) l)

@@ -20,28 +20,32 @@ unfoldable pub gather : List ℕ → ℕ → ℕ → ℕ
 gather w row zero = 0
 gather w row (suc n) = cond (has row n) (bitOr (gather w row n) (getD w n 0)) (gather w row n)
 
--- what role i holds once it has what its taken roles hold in w
+-- what role i holds once it has what its taken roles, by the rows' takes t, hold in w
 unfoldable pub grown : List ℕ → List ℕ → ℕ → ℕ
-grown s w i = bitOr (getD w i 0) (gather w (takes s i) (roles s))
+grown t w i = bitOr (getD w i 0) (gather w (getD t i 0) (length t))
 
 -- the first n rows grown in turn, in place; a round is all rows
 unfoldable pub steps : List ℕ → List ℕ → ℕ → List ℕ
-steps s w zero = w
-steps s w (suc n) = set (steps s w n) n (grown s (steps s w n) n)
+steps t w zero = w
+steps t w (suc n) = set (steps t w n) n (grown t (steps t w n) n)
 
--- the members of the first n roles
-unfoldable pub memberSets : List ℕ → ℕ → List ℕ
-memberSets s zero = []
-memberSets s (suc n) = memberSets s n ++ (members s n ∷ [])
+-- n rounds from the sets w
+unfoldable pub rounds : List ℕ → List ℕ → ℕ → List ℕ
+rounds t w zero = w
+rounds t w (suc n) = steps t (rounds t w n) (length t)
 
--- n rounds from the members
-unfoldable pub rounds : List ℕ → ℕ → List ℕ
-rounds s zero = memberSets s (roles s)
-rounds s (suc n) = steps s (rounds s n) (roles s)
+-- f 0, f 1, .. f (n - 1)
+unfoldable pub column : (ℕ → ℕ) → ℕ → List ℕ
+column f zero = []
+column f (suc n) = column f n ++ (f n ∷ [])
 
--- the meaning of role r: after as many rounds as there are roles nothing is left to add
+-- the meanings of all roles: from the members, after as many rounds as there are roles, nothing is left to add
+unfoldable pub meanings : List ℕ → List ℕ
+meanings s = rounds (column (takes s) (roles s)) (column (members s) (roles s)) (roles s)
+
+-- the meaning of role r
 unfoldable pub meaning : List ℕ → ℕ → ℕ
-meaning s r = getD (rounds s (roles s)) r 0
+meaning s r = getD (meanings s) r 0
 
 -- what asking for a meaning gives: a number and the meaning's bits
 pub data Answer : Type 0 where

@@ -12,13 +12,13 @@ use lib.Seq.{set-getD, take-suc-set, take-all, length-take-le}
 use borrow.Author.Tests.{lt-ltb, le-ltb, eq-eqb, ne-eqb}
 use Rattle.model.specs.Sets.{has, without}
 use Rattle.model.specs.Policy.{roles, rowAt, members, takes, Accepted, policyNumber}
-use Rattle.model.specs.Meaning.{gather, grown, steps, memberSets, rounds, meaning, answer, meaningOf}
+use Rattle.model.specs.Meaning.{gather, grown, steps, rounds, column, meanings, meaning, answer, meaningOf}
 use Rattle.model.proofs.Accepted.{accepted-facts}
 use Rattle.model.proofs.Sets.{has-zero, has-or-l, has-or-r, or-has, same-sets, has-below, has-without, without-has, without-le}
-use Rattle.model.proofs.Least.{In, gather-has, has-gather, members-length}
+use Rattle.model.proofs.Least.{In, gather-has, has-gather, column-length, column-at}
 use Rattle.policy.proofs.SetLaws.{next-without}
 use Rattle.policy.proofs.TakesLaws.{same-or, smaller}
-use Rattle.policy.specs.Still.{Still}
+use Rattle.policy.specs.Rounds.{Still, Fitting}
 
 -- the union over the roles in row, of which `rest` are still to come
 or-assoc : (a b c : ℕ) → bitOr (bitOr a b) c ≡ bitOr a (bitOr b c)
@@ -62,23 +62,28 @@ union-fits n rest j next h e = rw e (omega (arith, without-le rest j))
 pub ruleset unions = (union-turn, union-done, union-inside, union-fits, smaller, next-without)
 
 -- a round, row by row
-module _ (s old : List ℕ) where
-  pub length-steps : (i : ℕ) → length (steps s old i) ≡ length old
+module _ (t old : List ℕ) where
+  pub length-steps : (i : ℕ) → length (steps t old i) ≡ length old
   unfolding steps
   length-steps zero = refl
   length-steps (suc i) = simp length-set (length-steps i)
 
-  pub steps-none : old ≡ steps s old 0
+  pub steps-none : old ≡ steps t old 0
   unfolding steps
   steps-none = refl
 
-  pub steps-more : (w : List ℕ) (i t u : ℕ) → w ≡ steps s old i → length w ≡ roles s → t ≡ takes s i → u ≡ bitOr (getD w i 0) (gather w t (length w))
-      → set w i u ≡ steps s old (i + 1)
+  pub steps-more : (w : List ℕ) (i x : ℕ) → w ≡ steps t old i → length w ≡ length t → x ≡ bitOr (getD w i 0) (gather w (getD t i 0) (length w))
+      → set w i x ≡ steps t old (i + 1)
   unfolding steps grown
-  steps-more w i t u e l q g = rw (g, q, l, e, add-one i)
+  steps-more w i x e l g = rw (g, l, e, add-one i)
 
-  pub steps-done : (w : List ℕ) (i : ℕ) → w ≡ steps s old i → length w ≡ roles s → i ≤ length w → length w ≤ i → w ≡ steps s old (roles s)
-  steps-done w i e l h g = let n : i ≡ roles s = omega arith in e ∙ rw n
+  pub steps-done : (w : List ℕ) (i : ℕ) → w ≡ steps t old i → length w ≡ length t → i ≤ length w → length w ≤ i → w ≡ steps t old (length t)
+  steps-done w i e l h g = let n : i ≡ length t = omega arith in e ∙ rw n
+
+-- a row takes in only roles that there are
+pub row-fits : (t w : List ℕ) (i : ℕ) → Fitting t → length w ≡ length t → i < length w → getD t i 0 < 2 ^ length w
+unfolding Fitting
+row-fits t w i f l h = rw l (f i (omega arith))
 
 -- whether a set grew
 pub still-none : (w : List ℕ) → Still false w w
@@ -93,80 +98,94 @@ pub still-same : (old w : List ℕ) (b b′ : Bool) (i x : ℕ) → Still b old 
 unfolding Still
 still-same old w b b′ i x s g e f = rw e (set-getD w i 0 ∙ s (sym g ∙ f))
 
--- an accepted policy's rows are there, and take only roles that there are
-module _ (s : List ℕ) (ok : Accepted s) where
-  pub row-there : (w : List ℕ) (i : ℕ) → length w ≡ roles s → i < length w → rowAt i + 22 ≤ length s
-  row-there w i l h = omega (arith, accepted-facts s ok .long)
-
-  pub row-fits : (w : List ℕ) (i t : ℕ) → length w ≡ roles s → i < length w → t ≡ takes s i → t < 2 ^ length w
-  row-fits w i t l h e = rw (e, l) (accepted-facts s ok .row i (omega arith) .takes-below)
-
-pub ruleset round-laws = (row-there, row-fits, steps-none, steps-more, steps-done, still-none, still-not, still-same)
-
--- the sets to start from, row by row
-module _ (s : List ℕ) where
-  pub start-none : (w : List ℕ) → take 0 w ≡ memberSets s 0
-  unfolding memberSets
-  start-none w = refl
-
-  pub start-more : (w : List ℕ) (i m : ℕ) → take i w ≡ memberSets s i → i < length w → m ≡ members s i → take (i + 1) (set w i m) ≡ memberSets s (i + 1)
-  unfolding memberSets
-  start-more w i m e l p = rw (add-one i, p) (take-suc-set w i (members s i) l ∙ ap (λ (x : List ℕ). x ++ (members s i ∷ [])) e)
-
-  pub start-done : (w : List ℕ) (i : ℕ) → take i w ≡ memberSets s i → length w ≡ roles s → i ≤ length w → length w ≤ i → w ≡ rounds s 0
-  unfolding rounds
-  start-done w i e l h g = let n : i ≡ roles s = omega arith in sym (take-all i w g) ∙ e ∙ rw n
-
-pub ruleset start-laws = (start-none, start-more, start-done, row-there)
+pub ruleset round-laws = (row-fits, steps-none, steps-more, steps-done, still-none, still-not, still-same)
 
 -- the rounds
-module _ (s : List ℕ) where
-  rounds-length : (n : ℕ) → length (rounds s n) ≡ roles s
+module _ (t m : List ℕ) where
+  rounds-length : length m ≡ length t → (n : ℕ) → length (rounds t m n) ≡ length t
   unfolding rounds
-  rounds-length zero = members-length s (roles s)
-  rounds-length (suc n) = length-steps s (rounds s n) (roles s) ∙ rounds-length n
+  rounds-length l zero = l
+  rounds-length l (suc n) = length-steps t (rounds t m n) (length t) ∙ rounds-length l n
 
-  pub length-rounds : (w : List ℕ) (n : ℕ) → w ≡ rounds s n → length w ≡ roles s
-  length-rounds w n e = ap length e ∙ rounds-length n
+  pub rounds-none : m ≡ rounds t m 0
+  unfolding rounds
+  rounds-none = refl
 
-  pub rounds-more : (w u : List ℕ) (n : ℕ) → w ≡ rounds s n → u ≡ steps s w (roles s) → u ≡ rounds s (n + 1)
+  pub rounds-kept : (w u : List ℕ) → length w ≡ length t → u ≡ steps t w (length t) → length u ≡ length t
+  rounds-kept w u l g = ap length g ∙ length-steps t w (length t) ∙ l
+
+  pub rounds-more : (w u : List ℕ) (n : ℕ) → w ≡ rounds t m n → u ≡ steps t w (length t) → u ≡ rounds t m (n + 1)
   unfolding rounds
   rounds-more w u n e g = rw (g, e, add-one n)
 
-  pub rounds-below : (w u : List ℕ) (n : ℕ) → w ≡ rounds s n → u ≡ steps s w (roles s) → n < length w → n + 1 ≤ length u
-  rounds-below w u n e g h = rw g (omega (arith, length-steps s w (roles s)))
+  pub rounds-below : (w u : List ℕ) (n : ℕ) → u ≡ steps t w (length t) → n < length w → n + 1 ≤ length u
+  rounds-below w u n g h = rw g (omega (arith, length-steps t w (length t)))
 
-  pub rounds-done : (w : List ℕ) (n : ℕ) → w ≡ rounds s n → n ≤ length w → length w ≤ n → w ≡ rounds s (roles s)
-  rounds-done w n e h g = let k : n ≡ roles s = omega (arith, length-rounds w n e) in e ∙ rw k
+  pub rounds-done : (w : List ℕ) (n : ℕ) → w ≡ rounds t m n → length w ≡ length t → n ≤ length w → length w ≤ n → w ≡ rounds t m (length t)
+  rounds-done w n e l h g = let k : n ≡ length t = omega arith in e ∙ rw k
 
-  stays : (w : List ℕ) (n k : ℕ) → w ≡ rounds s n → w ≡ steps s w (roles s) → w ≡ rounds s (k + n)
+  stays : (w : List ℕ) (n k : ℕ) → w ≡ rounds t m n → w ≡ steps t w (length t) → w ≡ rounds t m (k + n)
   unfolding rounds
   stays w n zero e f = let q : 0 + n ≡ n = omega arith in rw q e
-  stays w n (suc k) e f = let q : suc k + n ≡ suc (k + n) = omega arith in rw q (f ∙ ap (λ (l : List ℕ). steps s l (roles s)) (stays w n k e f))
+  stays w n (suc k) e f = let q : suc k + n ≡ suc (k + n) = omega arith in rw q (f ∙ ap (λ (l : List ℕ). steps t l (length t)) (stays w n k e f))
 
-  pub rounds-still : (w u : List ℕ) (n : ℕ) (b : Bool) → w ≡ rounds s n → n ≤ length w → u ≡ steps s w (roles s) → Still b w u → b ≡ false → u ≡ rounds s (roles s)
+  pub rounds-still : (w u : List ℕ) (n : ℕ) (b : Bool) → w ≡ rounds t m n → length w ≡ length t → n ≤ length w → u ≡ steps t w (length t) → Still b w u → b ≡ false → u ≡ rounds t m (length t)
   unfolding Still
-  rounds-still w u n b e h g t f =
-      let k : (roles s - n) + n ≡ roles s = omega (arith, length-rounds w n e) in
-      t f ∙ stays w n (roles s - n) e (sym (t f) ∙ g) ∙ rw k
+  rounds-still w u n b e l h g y f =
+      let k : (length t - n) + n ≡ length t = omega arith in
+      y f ∙ stays w n (length t - n) e (sym (y f) ∙ g) ∙ rw k
 
-  pub rounds-meaning : (w : List ℕ) (r : ℕ) → w ≡ rounds s (roles s) → getD w r 0 ≡ meaning s r
-  unfolding meaning
-  rounds-meaning w r e = ap (λ (l : List ℕ). getD l r 0) e
+pub ruleset rounds-laws = (rounds-none, rounds-kept, rounds-more, rounds-below, rounds-done, rounds-still)
 
-  pub rounds-inside : (w : List ℕ) (r : ℕ) → w ≡ rounds s (roles s) → r < roles s → r < length w
-  rounds-inside w r e h = omega (arith, length-rounds w (roles s) e)
+-- a column, filled place by place
+module _ (f : ℕ → ℕ) where
+  pub column-none : (w : List ℕ) → take 0 w ≡ column f 0
+  unfolding column
+  column-none w = refl
 
-pub ruleset rounds-laws = (length-rounds, rounds-more, rounds-below, rounds-done, rounds-still)
+  pub column-more : (w : List ℕ) (i x : ℕ) → take i w ≡ column f i → i < length w → x ≡ f i → take (i + 1) (set w i x) ≡ column f (i + 1)
+  unfolding column
+  column-more w i x e l p = rw (add-one i, p) (take-suc-set w i (f i) l ∙ ap (λ (y : List ℕ). y ++ (f i ∷ [])) e)
 
-pub ruleset least-laws = (rounds-meaning, rounds-inside, length-rounds)
+  pub column-done : (w : List ℕ) (i n : ℕ) → take i w ≡ column f i → length w ≡ n → i ≤ length w → length w ≤ i → w ≡ column f n
+  column-done w i n e l h g = let k : i ≡ n = omega arith in sym (take-all i w g) ∙ e ∙ rw k
 
--- the part of 64 sets that a policy's roles need
+-- an accepted policy's rows are there, and take only roles that there are
+module _ (s : List ℕ) (ok : Accepted s) where
+  pub row-there : (n i : ℕ) → n ≡ roles s → i < n → rowAt i + 22 ≤ length s
+  row-there n i l h = omega (arith, accepted-facts s ok .long)
+
+  pub takes-fitting : (t : List ℕ) → t ≡ column (takes s) (roles s) → Fitting t
+  unfolding Fitting
+  takes-fitting t e i l =
+      let n : length t ≡ roles s = ap length e ∙ column-length (takes s) (roles s) in
+      let k : i < roles s = omega arith in
+      rw (n, e, column-at (takes s) (roles s) i k) (accepted-facts s ok .row i k .takes-below)
+
+pub ruleset column-laws = (column-none, column-more, column-done, row-there)
+
+pub columns-same : (f g : ℕ → ℕ) (t w : List ℕ) (n : ℕ) → t ≡ column f n → w ≡ column g n → length w ≡ length t
+columns-same f g t w n p q = ap length q ∙ column-length g n ∙ sym (ap length p ∙ column-length f n)
+
+pub rounds-meanings : (s t m w : List ℕ) → t ≡ column (takes s) (roles s) → m ≡ column (members s) (roles s) → w ≡ rounds t m (length t) → w ≡ meanings s
+unfolding meanings
+rounds-meanings s t m w p q e = let n : length t ≡ roles s = ap length p ∙ column-length (takes s) (roles s) in e ∙ rw (n, p, q)
+
+pub ruleset sets-laws = (takes-fitting, columns-same, rounds-meanings)
+
+-- one role's set among those of all
+pub set-is : (s w : List ℕ) (r : ℕ) → w ≡ meanings s → getD w r 0 ≡ meaning s r
+unfolding meaning
+set-is s w r e = ap (λ (l : List ℕ). getD l r 0) e
+
+-- the part of 64 words that a policy's roles need
 pub part-count : (w : List ℕ) (n : ℕ) → length w ≡ 64 → n ≤ 64 → n ≡ length (take n w)
 part-count w n l h = sym (length-take-le n w (omega arith))
 
 pub part-length : (w : List ℕ) (n k : ℕ) → length w ≡ 64 → n ≤ 64 → n ≡ k → length (take n w) ≡ k
 part-length w n k l h e = sym (part-count w n l h) ∙ e
+
+pub ruleset set-laws = (set-is, part-count, part-length)
 
 -- asking for a meaning
 module _ (s : List ℕ) (r k : ℕ) (p : k ≡ policyNumber s) where
@@ -197,4 +216,4 @@ module _ (s : List ℕ) (r k : ℕ) (p : k ≡ policyNumber s) where
       unfolding meaningOf
       asked-found h x y = let l : r < roles s = omega arith in rw y (simp (eq-eqb _ _ (sym p ∙ z), lt-ltb _ _ l))
 
-pub ruleset asked = (asked-refused, asked-seven, asked-accepted, asked-few, asked-none, asked-found, part-count, part-length)
+pub ruleset asked = (asked-refused, asked-seven, asked-accepted, asked-few, asked-none, asked-found)

@@ -3,9 +3,9 @@ ghost use mathlib.Core.Path.{_≡_};
 ghost use Prim.Native.Nat.{ℕ, _+_, _^_, _<_, _≤_};
 ghost use lib.Bits.{bitOr};
 ghost use lib.ListN.{length};
-ghost use Rattle.model.specs.Policy.{roles, Accepted};
-ghost use Rattle.model.specs.Meaning.{gather, steps, rounds, meaning, answer, meaningOf};
-ghost use Rattle.policy.specs.Still.{Still};
+ghost use Rattle.model.specs.Policy.{roles, members, takes, Accepted};
+ghost use Rattle.model.specs.Meaning.{gather, steps, rounds, column, meanings, meaning, answer, meaningOf};
+ghost use Rattle.policy.specs.Rounds.{Still, Fitting};
 use super::bytes;
 use super::check;
 use super::number;
@@ -34,16 +34,16 @@ fn with_taken(sets: &[u32], own: u32, row: u64) -> u32
 }
 
 // One round over all rows, in place. False when no set grew.
-fn round(s: &[u8], sets: &mut [u32]) -> bool
-    requires { ⌜ (length (now sets) ≡ roles (now s)) × Accepted (now s) ⌝ }
-    ensures now_sets { λ r. ⌜ now (sets .exit) ≡ steps (now (s .entry)) (now (sets .entry)) (roles (now (s .entry))) ⌝ }
+fn round(takes: &[u64], sets: &mut [u32]) -> bool
+    requires { ⌜ (length (now sets) ≡ length (now takes)) × Fitting (now takes) ⌝ }
+    ensures now_sets { λ r. ⌜ now (sets .exit) ≡ steps (now (takes .entry)) (now (sets .entry)) (length (now (takes .entry))) ⌝ }
     ensures still { λ r. ⌜ Still r (now (sets .entry)) (now (sets .exit)) ⌝ }
 {
     let mut grew = false;
     let mut i = 0;
     while i < sets.len() {
         let old = sets[i];
-        let new = with_taken(sets, old, rows::takes_of(s, i));
+        let new = with_taken(sets, old, takes[i]);
         sets[i] = new;
         if new != old {
             grew = true;
@@ -53,10 +53,25 @@ fn round(s: &[u8], sets: &mut [u32]) -> bool
     grew
 }
 
-// The sets to start from: each role's members.
-fn start_sets(s: &[u8], sets: &mut [u32])
+// As many rounds as there are roles, or fewer where a round adds nothing.
+fn all_rounds(takes: &[u64], sets: &mut [u32])
+    requires { ⌜ (length (now sets) ≡ length (now takes)) × Fitting (now takes) ⌝ }
+    ensures { λ _. ⌜ now (sets .exit) ≡ rounds (now (takes .entry)) (now (sets .entry)) (length (now (takes .entry))) ⌝ }
+{
+    let mut n = 0;
+    while n < sets.len() {
+        if round(takes, sets) {
+            n += 1;
+        } else {
+            return;
+        }
+    }
+}
+
+// The members of each row: the sets to start from.
+fn load_members(s: &[u8], sets: &mut [u32])
     requires { ⌜ (length (now sets) ≡ roles (now s)) × Accepted (now s) ⌝ }
-    ensures { λ _. ⌜ now (sets .exit) ≡ rounds (now (s .entry)) 0 ⌝ }
+    ensures { λ _. ⌜ now (sets .exit) ≡ column (members (now (s .entry))) (roles (now (s .entry))) ⌝ }
 {
     let mut i = 0;
     while i < sets.len() {
@@ -65,29 +80,38 @@ fn start_sets(s: &[u8], sets: &mut [u32])
     }
 }
 
-// As many rounds as there are roles, or fewer where a round adds nothing.
-fn all_rounds(s: &[u8], sets: &mut [u32])
-    requires { ⌜ (length (now sets) ≡ roles (now s)) × (now sets ≡ rounds (now s) 0) × Accepted (now s) ⌝ }
-    ensures { λ _. ⌜ now (sets .exit) ≡ rounds (now (s .entry)) (roles (now (s .entry))) ⌝ }
+// What each row takes in, as words side by side: every round reads them.
+fn load_takes(s: &[u8], words: &mut [u64])
+    requires { ⌜ (length (now words) ≡ roles (now s)) × Accepted (now s) ⌝ }
+    ensures { λ _. ⌜ now (words .exit) ≡ column (takes (now (s .entry))) (roles (now (s .entry))) ⌝ }
 {
-    let mut n = 0;
-    while n < sets.len() {
-        if round(s, sets) {
-            n += 1;
-        } else {
-            return;
-        }
+    let mut i = 0;
+    while i < words.len() {
+        words[i] = rows::takes_of(s, i);
+        i += 1;
     }
 }
 
+// The least sets of all roles.
+fn least_sets(s: &[u8], words: &mut [u64], sets: &mut [u32])
+    requires { ⌜ (length (now words) ≡ roles (now s)) × (length (now sets) ≡ roles (now s)) × Accepted (now s) ⌝ }
+    ensures { λ _. ⌜ now (sets .exit) ≡ meanings (now (s .entry)) ⌝ }
+{
+    load_takes(s, words);
+    load_members(s, sets);
+    all_rounds(words, sets);
+}
+
 // The least set of a role that there is.
-fn least_set(s: &[u8], sets: &mut [u32], role: usize) -> u32
-    requires { ⌜ (length (now sets) ≡ roles (now s)) × Accepted (now s) × (role < roles (now s)) ⌝ }
+fn least_set(s: &[u8], n: usize, role: usize) -> u32
+    requires { ⌜ (n ≡ roles (now s)) × Accepted (now s) × (role < roles (now s)) × (n ≤ 64) ⌝ }
     ensures { λ r. ⌜ r ≡ meaning (now (s .entry)) role ⌝ }
 {
-    start_sets(s, sets);
-    all_rounds(s, sets);
-    sets[role]
+    let mut words = [0u64; 64];
+    let mut sets = [0u32; 64];
+    let part = &mut sets[..n];
+    least_sets(s, &mut words[..n], part);
+    part[role]
 }
 
 // The meaning of a role under a policy: any bytes, any role number.
@@ -105,11 +129,8 @@ pub fn meaning_of(s: &[u8], role: u32) -> Meaning
             bits: 0,
         };
     }
-    let mut sets = [0u32; 64];
-    let n = roles as usize;
-    let bits = least_set(s, &mut sets[..n], role as usize);
     Meaning {
         number: number::ACCEPTED,
-        bits,
+        bits: least_set(s, roles as usize, role as usize),
     }
 }
