@@ -198,7 +198,7 @@ module _ (s : List ℕ) where
   meaning-closed = record {
     own = λ r p l h. is-meaning (roles s) refl r p (after-members ts ms alike p (roles s) r (rw count l) (rw (column-at (members s) (roles s) r l) h));
     taken = λ r j p l k b h. is-meaning (length ts) count r p
-      (all-due ts ms alike p r (rw count l) (taken (rw count k) (rw (column-at (takes s) (roles s) r l) b) (meaning-is (length ts) count j p h)));
+        (all-due ts ms alike p r (rw count l) (taken (rw count k) (rw (column-at (takes s) (roles s) r l) b) (meaning-is (length ts) count j p h)));
   }
 
   -- and no closed sets hold less

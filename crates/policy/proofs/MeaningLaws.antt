@@ -178,6 +178,13 @@ pub set-is : (s w : List ℕ) (r : ℕ) → w ≡ meanings s → getD w r 0 ≡ 
 unfolding meaning
 set-is s w r e = ap (λ (l : List ℕ). getD l r 0) e
 
+pub set-there : (s w : List ℕ) (r : ℕ) → w ≡ meanings s → r < roles s → r < length w
+unfolding meanings
+set-there s w r e l =
+    let c = column-length (takes s) (roles s) in
+    let n = rounds-length (column (takes s) (roles s)) (column (members s) (roles s)) (column-length (members s) (roles s) ∙ sym c) (roles s) in
+    omega (arith, ap length e)
+
 -- the part of 64 words that a policy's roles need
 pub part-count : (w : List ℕ) (n : ℕ) → length w ≡ 64 → n ≤ 64 → n ≡ length (take n w)
 part-count w n l h = sym (length-take-le n w (omega arith))
@@ -185,7 +192,7 @@ part-count w n l h = sym (length-take-le n w (omega arith))
 pub part-length : (w : List ℕ) (n k : ℕ) → length w ≡ 64 → n ≤ 64 → n ≡ k → length (take n w) ≡ k
 part-length w n k l h e = sym (part-count w n l h) ∙ e
 
-pub ruleset set-laws = (set-is, part-count, part-length)
+pub ruleset set-laws = (set-is, set-there, part-count, part-length)
 
 -- asking for a meaning
 module _ (s : List ℕ) (r k : ℕ) (p : k ≡ policyNumber s) where

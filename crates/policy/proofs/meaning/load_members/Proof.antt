@@ -1,3 +1,10 @@
+use native.Mathlib.Omega.{arith}
+use Rattle.model.specs.Policy.{roles, members}
+use lib.ListN.{length, take, length-set}
+use Rattle.model.specs.Meaning.{column}
+use Prim.Native.Nat.{ℕ, _≤_, _-_, _+_}
+use mathlib.Core.Path.{_≡_}
+use Rattle.policy.proofs.MeaningLaws.{column-laws}
 use borrow.Author.Needs.{needs}
 use Rattle.policy.proofs.meaning.load_members.Statement.{statement}
 use Rattle.policy.proofs.meaning.load_members.Tie as tie
@@ -6,46 +13,14 @@ use Rattle.policy.proofs.meaning.load_members.Lts as lts
 use Rattle.policy.proofs.rows.members_of.Reads as members-of-reads
 
 abbrev Inv-loop : tie.InvT-loop
-Inv-loop s sets₀ i₀ sets i = ?
+Inv-loop s sets₀ i₀ sets i = (i ≤ length sets) × ((length sets ≡ roles s) × (take i sets ≡ column (members s) i))
 
 abbrev μ-loop : tie.MeasureT-loop
-μ-loop s sets₀ i₀ sets i = ?
-
--- src/meaning.rt:77:5
-loop-holds : tie.Need-loop-holds Inv-loop μ-loop
-loop-holds c = search needs
-
--- src/meaning.rt:78:19
-members-of-requires : tie.Need-members-of-requires Inv-loop μ-loop
-members-of-requires c κs = search needs
-
--- src/meaning.rt:78:9
-mul-sets : tie.Need-mul-sets Inv-loop μ-loop
-mul-sets c = search needs
-
--- src/meaning.rt:78:9
-slice-write-sets : tie.Need-slice-write-sets Inv-loop μ-loop
-slice-write-sets c = search needs
-
--- src/meaning.rt:79:9
-add-i : tie.Need-add-i Inv-loop μ-loop
-add-i c = search needs
-
--- src/meaning.rt:77:5
-loop-less : tie.Need-loop-less Inv-loop μ-loop
-loop-less c = search needs
+μ-loop s sets₀ i₀ sets i = length sets₀ - i
 
 -- src/meaning.rt:77:5
 loop-again : tie.Need-loop-again Inv-loop μ-loop
-loop-again c = search needs
-
--- src/meaning.rt:72:1
-same-length : tie.Need-same-length Inv-loop μ-loop
-same-length c = search needs
-
--- src/meaning.rt:72:1
-returns : tie.Need-returns Inv-loop μ-loop
-returns c = search needs
+loop-again c = (simp length-set (omega arith), (simp length-set (omega arith), search (needs, column-laws)))
 
 pub load-members-spec : {M : Type 1} → statement M
 load-members-spec =
@@ -53,12 +28,12 @@ load-members-spec =
     (tie.spec
     Inv-loop
     μ-loop
-    loop-holds
-    members-of-requires
-    mul-sets
-    slice-write-sets
-    add-i
-    loop-less
+    (λ c. search (needs, column-laws))
+    (λ c κs. search (needs, column-laws))
+    (λ c. search needs)
+    (λ c. search needs)
+    (λ c. search needs)
+    (λ c. search needs)
     loop-again
-    same-length
-    returns)
+    (λ c. search needs)
+    (λ c. search (needs, column-laws)))

@@ -1,0 +1,108 @@
+-- A law for each return of expressions.rt: the definition goes by the code, with one less of depth for what it holds.
+use mathlib.Core.Path.{_≡_, refl, sym, _∙_}
+use Prim.Native.Nat.{ℕ, zero, suc, _+_, _-_, _<_, _≤_}
+use mathlib.Core.List.{List}
+use mathlib.Core.Bool.{Bool, true, false, cond}
+use native.Mathlib.Omega.{arith}
+use native.Mathlib.Numerals.{sub-one}
+use lib.Dec.{eqb, leb}
+use lib.ListN.{length}
+use borrow.Author.Tests.{le-leb, lt-leb}
+use Rattle.model.specs.Number.{programLength, programCode}
+use Rattle.model.specs.Bytes.{byte, word}
+use Rattle.model.specs.Syntax.{Operator as ModelOperator, sum, difference, product, quotient, less, equal, Expr, constant, variable, binary}
+use Rattle.model.specs.Program.{Read as Reading, got, bad, andThen, readByte, readBelow, binaryAt, exprAt, readExpr}
+use Rattle.program.specs.declared.answer.Read.{Read}
+use Rattle.program.specs.declared.answer.Read.the-variants.{At, Bad}
+use Rattle.program.specs.declared.codes.Operator.{Operator}
+use Rattle.program.specs.declared.codes.Operator.the-variants.{Sum, Difference, Product, Quotient, Less, Equal}
+use Rattle.program.specs.declared.codes.Expression.{Expression}
+use Rattle.program.specs.declared.codes.Expression.the-variants.{Constant, Variable, Binary}
+use Rattle.program.specs.declared.codes.ExpressionOf.{ExpressionOf}
+use Rattle.program.specs.declared.codes.ExpressionOf.the-variants.{Is, No}
+use Rattle.program.specs.Answer.{answerOf}
+use Rattle.program.specs.Codes.{expressionOf}
+use Rattle.program.proofs.AnswerLaws.{then-at, then-bad, then-last, byte-there, byte-missing}
+
+modelOperator : Operator → ModelOperator
+modelOperator Sum = sum
+modelOperator Difference = difference
+modelOperator Product = product
+modelOperator Quotient = quotient
+modelOperator Less = less
+modelOperator Equal = equal
+
+constantAt : List ℕ → ℕ → Reading Expr
+constantAt s next = cond (leb (next + 4) (length s)) (got (constant (word s next 4)) (next + 4)) (bad programLength (length s))
+
+module _ (s : List ℕ) (vars : ℕ) (sub : ℕ → Reading Expr) (at next : ℕ) where
+  coded : ExpressionOf → Reading Expr
+  coded (Is Constant) = constantAt s next
+  coded (Is Variable) = andThen (readBelow s vars next) (λ x end. got (variable x) end)
+  coded (Is (Binary o)) = binaryAt sub (modelOperator o) next
+  coded No = bad programCode at
+
+  by-code : (x : ℕ) → exprAt s vars sub at x next ≡ coded (expressionOf x)
+  unfolding exprAt expressionOf coded constantAt modelOperator
+  by-code x = go (eqb x 0) (eqb x 1) (eqb x 2) (eqb x 3) (eqb x 4) (eqb x 5) (eqb x 6) (eqb x 7)
+    where
+      go : (a b c d e f g h : Bool) → cond a (constantAt s next) (cond b (andThen (readBelow s vars next) (λ x end. got (variable x) end))
+          (cond c (binaryAt sub sum next) (cond d (binaryAt sub difference next) (cond e (binaryAt sub product next)
+          (cond f (binaryAt sub quotient next) (cond g (binaryAt sub less next) (cond h (binaryAt sub equal next) (bad programCode at))))))))
+          ≡ coded (cond a (Is Constant) (cond b (Is Variable) (cond c (Is (Binary Sum)) (cond d (Is (Binary Difference))
+          (cond e (Is (Binary Product)) (cond f (Is (Binary Quotient)) (cond g (Is (Binary Less)) (cond h (Is (Binary Equal)) No))))))))
+      go true b c d e f g h = refl
+      go false true c d e f g h = refl
+      go false false true d e f g h = refl
+      go false false false true e f g h = refl
+      go false false false false true f g h = refl
+      go false false false false false true g h = refl
+      go false false false false false false true h = refl
+      go false false false false false false false true = refl
+      go false false false false false false false false = refl
+
+pub expr-deep : (s : List ℕ) (v d at : ℕ) → d ≡ 0 → Bad 14 at ≡ answerOf (readExpr s v d at)
+unfolding readExpr answerOf
+expr-deep s v d at e = rw e
+
+step : (s : List ℕ) (v d at : ℕ) → (d ≡ 0 → ⊥) → readExpr s v d at ≡ andThen (readByte s at) (exprAt s v (readExpr s v (d - 1)) at)
+unfolding readExpr
+step s v zero at f = absurd (f refl)
+step s v (suc d) at f = rw sub-one
+
+module _ (s : List ℕ) (v d at : ℕ) (f : d ≡ 0 → ⊥) where
+  pub expr-missing : length s ≤ at → Bad 10 (length s) ≡ answerOf (readExpr s v d at)
+  expr-missing h = rw (step s v d at f) (byte-missing s at _ h)
+
+  module _ (l : at < length s) (k : ExpressionOf) (e : k ≡ expressionOf (byte s at)) where
+    here : readExpr s v d at ≡ coded s v (readExpr s v (d - 1)) at (at + 1) k
+    here = step s v d at f ∙ byte-there s at _ l ∙ by-code s v (readExpr s v (d - 1)) at (at + 1) (byte s at) ∙ rw e
+
+    pub expr-unknown : k ≡ No → Bad 12 at ≡ answerOf (readExpr s v d at)
+    unfolding coded answerOf
+    expr-unknown h = rw (here, h)
+
+    module _ (x : Expression) (h : k ≡ Is x) where
+      pub constant-missing : x ≡ Constant → length s - (at + 1) < 4 → Bad 10 (length s) ≡ answerOf (readExpr s v d at)
+      unfolding coded constantAt answerOf
+      constant-missing g i = let j : length s < at + 1 + 4 = omega arith in rw (here, h, g) (simp (lt-leb _ _ j))
+
+      pub constant-read : x ≡ Constant → 4 ≤ length s - (at + 1) → At (at + 1 + 4) ≡ answerOf (readExpr s v d at)
+      unfolding coded constantAt answerOf
+      constant-read g i = let j : at + 1 + 4 ≤ length s = omega arith in rw (here, h, g) (simp (le-leb _ _ j))
+
+      pub variable-read : (r : Read) → x ≡ Variable → r ≡ answerOf (readBelow s v (at + 1)) → r ≡ answerOf (readExpr s v d at)
+      unfolding coded
+      variable-read r g i = rw (here, h, g) (i ∙ then-last (readBelow s v (at + 1)) variable)
+
+      module _ (o : Operator) (g : x ≡ Binary o) (a : Read) (i : a ≡ answerOf (readExpr s v (d - 1) (at + 1))) where
+        pub binary-first : (b c : ℕ) → a ≡ Bad b c → a ≡ answerOf (readExpr s v d at)
+        unfolding coded binaryAt
+        binary-first b c j = rw (here, h, g) (then-bad (readExpr s v (d - 1) (at + 1)) _ b c a i j)
+
+        pub binary-second : (mid : ℕ) (r : Read) → a ≡ At mid → r ≡ answerOf (readExpr s v (d - 1) mid) → r ≡ answerOf (readExpr s v d at)
+        unfolding coded binaryAt
+        binary-second mid r j m =
+            rw (here, h, g) (then-at (readExpr s v (d - 1) (at + 1)) _ mid r (sym i ∙ j) (λ y _. m ∙ then-last (readExpr s v (d - 1) mid) (binary (modelOperator o) y)))
+
+pub ruleset expressions = (expr-deep, expr-missing, expr-unknown, constant-missing, constant-read, variable-read, binary-first, binary-second)

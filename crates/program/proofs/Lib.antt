@@ -1,0 +1,6 @@
+mod CodeLaws
+mod AnswerLaws
+mod AtomLaws
+mod ExpressionLaws
+mod StatementLaws
+mod HeadLaws
