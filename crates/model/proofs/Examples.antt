@@ -1,14 +1,19 @@
 -- The worked examples of document 01 that are marked *, in one table: they hold of the definitions by computation.
-use Prim.Native.Nat.{ℕ}
+use Prim.Native.Nat.{ℕ, _-_}
 use mathlib.Core.Path.{_≡_, refl}
 use mathlib.Core.List.{List, [], _∷_, _++_}
-use Rattle.model.specs.Number.{accepted, flowReading, flowTrust, fine, refused, firstBelow}
-use Rattle.model.specs.Bytes.{word, startsWith}
+use Rattle.model.specs.Number.{accepted, flowReading, flowTrust, fuelSpent, fine, refused, firstBelow}
+use Rattle.model.specs.Bytes.{word, put, startsWith}
 use Rattle.model.specs.Policy.{policyNumber, headNumber, rowNumber, principalNumber, ownerNumber, pairNumber, grantsNumber, takesNumber, takenNumber, viewers, trusters, members, takes, watchers, mayTake, mayHold}
 use Rattle.model.specs.Meaning.{gather, grown, steps, rounds, column, meanings, meaning, answer, meaningOf}
-use Rattle.model.specs.Mutation.{allowed}
+use Rattle.model.specs.Mutation.{allowed, putMembers, putTakes, mutate}
 use Rattle.model.specs.Program.{andThen, readByte, readBelow, readMark, readMany, atomAt, readAtom, readLabel, readQuery, mutationAt, readMutation, binaryAt, exprAt, readExpr, blockOf, assignAt, blockAt, ifAt, whileAt, queryAt, updateAt, transactionAt, stmtAt, readStmt, readBody, readProgram}
 use Rattle.model.specs.Order.{fixedSet, includes, base, atMost, joinAtMost}
+use Rattle.model.specs.Syntax.{quotient, sum}
+use Rattle.model.specs.Atoms.{atomSet, holds}
+use Rattle.model.specs.Value.{modulus, quotientOf, apply, valueAt, setValue, evaluate}
+use Rattle.model.specs.Run
+use Rattle.model.specs.Run.{Update, after, charge, mutateAll, broken, loop, attempt, execute, finish, runBody, run}
 use Rattle.model.specs.Flow.{labelAtom, label, exprLabel, atomLabel, queryLabel, listLabel, assigned, rolesOf, mutated, eachIn, listedIn, allAllowed, mayAssign, mayUpdate, flow, bodyVerdict, programVerdict}
 
 -- mark and version of a policy, of a program
@@ -56,6 +61,18 @@ changeProgram a b =
 abbrev queryProgram : List ℕ
 queryProgram = rxp ++ 1 ∷ 0xff ∷ 0xff ∷ 7 ∷ 1 ∷ 0xff ∷ 0 ∷ 5 ∷ 0xff ∷ 0 ∷ 1 ∷ 0 ∷ 0 ∷ 0 ∷ 0 ∷ 0 ∷ 0 ∷ 0 ∷ []
 
+-- policy F once role 0 no longer takes role 1
+abbrev pub policyF′ : List ℕ
+policyF′ = rxt ++ 2 ∷ 2 ∷ row 0 1 3 3 0 0 ++ row 1 1 3 3 2 0
+
+-- the one update of policy F's runs
+abbrev changeF : Update
+changeF = record { before = policyF; after = policyF′ }
+
+-- a memory of one-byte values
+abbrev cell : ℕ → List ℕ
+cell x = x ∷ 0 ∷ 0 ∷ 0 ∷ []
+
 pub record WorkedExamples : Type 0 where
   -- E is accepted, and role 0 means {0}
   pub policy-E : policyNumber policyE ≡ accepted
@@ -70,9 +87,23 @@ pub record WorkedExamples : Type 0 where
   pub reversed-accepted : programVerdict policyF (changeProgram 1 0) ≡ fine
   -- a query on a role viewed by principal 0 only, then an assignment for everyone inside it, is 17
   pub query-refused : programVerdict policyOne queryProgram ≡ refused flowReading 15
+  -- its run on 7, 0 gives 7, 12 with one unit
+  pub first-run : run policyE firstProgram (cell 7 ++ cell 0) 1000000
+      ≡ record { number = accepted; units = 1; policy = policyE; memory = cell 7 ++ cell 12; updates = [] }
+  -- policy F: one rollback, v0 unchanged, 6 units, one update; with fuel 5 spent
+  pub change-run : run policyF (changeProgram 0 1) (cell 9) 1000000
+      ≡ record { number = accepted; units = 6; policy = policyF′; memory = cell 9; updates = changeF ∷ [] }
+  pub change-spent : run policyF (changeProgram 0 1) (cell 9) 5
+      ≡ record { number = fuelSpent; units = 5; policy = policyF; memory = cell 9; updates = changeF ∷ [] }
+  -- the pair reversed: no rollback, v0 = 1, 4 units
+  pub reversed-run : run policyF (changeProgram 1 0) (cell 9) 1000000
+      ≡ record { number = accepted; units = 4; policy = policyF′; memory = cell 1; updates = changeF ∷ [] }
+  -- -7 by 2 is -3; 2147483647 + 1 is -2147483648
+  pub quotient-example : apply quotient (modulus - 7) 2 ≡ modulus - 3
+  pub sum-example : apply sum 2147483647 1 ≡ modulus - 2147483648
 
 pub worked-examples : WorkedExamples
-unfolding firstBelow word startsWith policyNumber headNumber rowNumber principalNumber ownerNumber pairNumber grantsNumber takesNumber takenNumber viewers trusters members takes watchers mayTake mayHold gather grown steps rounds column meanings meaning meaningOf allowed andThen readByte readBelow readMark readMany atomAt readAtom readLabel readQuery mutationAt readMutation binaryAt exprAt readExpr blockOf assignAt blockAt ifAt whileAt queryAt updateAt transactionAt stmtAt readStmt readBody readProgram fixedSet includes base atMost joinAtMost labelAtom label exprLabel atomLabel queryLabel listLabel assigned rolesOf mutated eachIn listedIn allAllowed mayAssign mayUpdate flow bodyVerdict programVerdict
+unfolding firstBelow word startsWith policyNumber headNumber rowNumber principalNumber ownerNumber pairNumber grantsNumber takesNumber takenNumber viewers trusters members takes watchers mayTake mayHold gather grown steps rounds column meanings meaning meaningOf allowed andThen readByte readBelow readMark readMany atomAt readAtom readLabel readQuery mutationAt readMutation binaryAt exprAt readExpr blockOf assignAt blockAt ifAt whileAt queryAt updateAt transactionAt stmtAt readStmt readBody readProgram fixedSet includes base atMost joinAtMost labelAtom label exprLabel atomLabel queryLabel listLabel assigned rolesOf mutated eachIn listedIn allAllowed mayAssign mayUpdate flow bodyVerdict programVerdict atomSet holds put putMembers putTakes mutate quotientOf apply valueAt setValue evaluate after charge Run.andThen mutateAll broken loop attempt execute finish runBody run
 worked-examples =
     record {
       policy-E = refl;
@@ -83,4 +114,10 @@ worked-examples =
       change-accepted = refl;
       reversed-accepted = refl;
       query-refused = refl;
+      first-run = refl;
+      change-run = refl;
+      change-spent = refl;
+      reversed-run = refl;
+      quotient-example = refl;
+      sum-example = refl;
     }

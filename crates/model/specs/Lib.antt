@@ -9,3 +9,6 @@ pub mod Program
 pub mod Order
 pub mod Flow
 pub mod Atoms
+pub mod Value
+pub mod Run
+pub mod Claim

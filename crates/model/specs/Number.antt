@@ -71,6 +71,18 @@ flowReading = 17
 abbrev pub flowTrust : ℕ
 flowTrust = 18
 
+-- 20: the memory is not four bytes a variable
+abbrev pub memoryLength : ℕ
+memoryLength = 20
+
+-- 21: the fuel is 0 or over its limit
+abbrev pub fuelRange : ℕ
+fuelRange = 21
+
+-- 22: spent
+abbrev pub fuelSpent : ℕ
+fuelSpent = 22
+
 -- number k unless the check holds, else what the later checks give
 abbrev pub unless : Bool → ℕ → ℕ → ℕ
 unless holds k later = cond holds later k
