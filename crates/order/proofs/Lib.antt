@@ -1,0 +1,6 @@
+mod Truth
+mod RowLaws
+mod BaseLaws
+mod LearnLaws
+mod DecideLaws
+pub mod Joins
