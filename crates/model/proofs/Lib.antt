@@ -15,5 +15,10 @@ pub mod Semantics
 pub mod Verdict
 pub mod Fits
 pub mod Reading
+pub mod Refusals
 pub mod FlowParts
+pub mod RunRestart
+pub mod RunLaws
+pub mod RunPolicy
+pub mod RunFuel
 pub mod Examples

@@ -1,10 +1,9 @@
 -- A chosen number is 0 exactly when every check that it is chosen from gives 0.
 use Prim.Native.Nat.{ℕ, zero, suc, _<_}
 use mathlib.Core.Path.{_≡_, refl}
-use mathlib.Core.Logic.{_⊎_, inl, inr, ⊎-elim}
+use mathlib.Core.Logic.{⊎-elim}
 use mathlib.Core.Bool.{Bool, true, false}
 use native.Mathlib.Omega.{arith}
-use native.Mathlib.Decide.{decLt}
 use lib.Dec.{eqb·suc-zero}
 use Rattle.model.specs.Number.{unless, first, firstBelow}
 use Rattle.model.proofs.Below.{last-or}

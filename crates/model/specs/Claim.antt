@@ -3,13 +3,13 @@
 -- runs with an update that puts one of the group into a role's meaning.
 use Prim.Native.Nat.{ℕ, _<_}
 use mathlib.Core.Path.{_≡_}
-use mathlib.Core.List.{List, [], _∷_, List·Memᴰ}
+use mathlib.Core.List.{List, List·Memᴰ}
 use mathlib.Core.Bool.{Bool, true, false, not}
 use lib.Dec.{eqb}
 use lib.Bits.{bitAnd}
 use Rattle.model.specs.Number.{accepted}
 use Rattle.model.specs.Sets.{has}
-use Rattle.model.specs.Policy.{Side, reading, trust, roles, watchers, SameFixed, Agree}
+use Rattle.model.specs.Policy.{Side, roles, watchers, SameFixed, Agree}
 use Rattle.model.specs.Meaning.{meaning}
 use Rattle.model.specs.Program.{variables}
 use Rattle.model.specs.Flow.{label}

@@ -2,7 +2,7 @@
 use Prim.Native.Nat.{ℕ, zero, suc, _+_, _-_, _*_}
 use mathlib.Core.List.{List, [], _∷_, _++_}
 use mathlib.Core.Bool.{Bool, true, false, cond, _&&_, _||_}
-use lib.Dec.{eqb, ltb}
+use lib.Dec.{eqb}
 use lib.ListN.{getD}
 use lib.Bits.{bitOr}
 use Rattle.model.specs.Number.{accepted, flowPlace, flowGrant, flowReading, flowTrust, Verdict, fine, refused, require, orElse}
@@ -10,7 +10,7 @@ use Rattle.model.specs.Sets.{has, with}
 use Rattle.model.specs.Bytes.{byte}
 use Rattle.model.specs.Policy.{Side, reading, trust, principals, roles, policyNumber}
 use Rattle.model.specs.Mutation.{Mutation, allowed}
-use Rattle.model.specs.Syntax.{Fixed, of, everyone, Atom, role, fixed, Query, sameQuery, Expr, constant, variable, binary, Stmt, skip, assign, empty, block, if, while, query, update, transaction}
+use Rattle.model.specs.Syntax.{of, everyone, Atom, role, fixed, Query, sameQuery, Expr, constant, variable, binary, Stmt, skip, assign, empty, block, if, while, query, update, transaction}
 use Rattle.model.specs.Program.{Read, got, bad, readProgram}
 use Rattle.model.specs.Order.{joinAtMost}
 

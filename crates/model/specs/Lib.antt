@@ -12,3 +12,4 @@ pub mod Atoms
 pub mod Value
 pub mod Run
 pub mod Claim
+pub mod Calls

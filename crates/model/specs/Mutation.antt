@@ -1,7 +1,7 @@
 -- One mutation of a row, and when the policy file allows it.
-use Prim.Native.Nat.{ℕ, _+_, _<_}
+use Prim.Native.Nat.{ℕ, _+_}
 use mathlib.Core.List.{List}
-use mathlib.Core.Bool.{Bool, true, false}
+use mathlib.Core.Bool.{Bool, true}
 use Rattle.model.specs.Sets.{with, without}
 use Rattle.model.specs.Bytes.{put}
 use Rattle.model.specs.Policy.{principals, roles, rowAt, members, takes, mayHold, mayTake}

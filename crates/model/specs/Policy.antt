@@ -1,8 +1,8 @@
 -- The policy file of document 01: its fields by position, the number of any bytes, the fixed part, agreement on a role.
-use Prim.Native.Nat.{ℕ, zero, suc, _+_, _*_, _^_, _<_}
+use Prim.Native.Nat.{ℕ, _+_, _*_, _^_, _<_}
 use mathlib.Core.Path.{_≡_}
 use mathlib.Core.List.{List, [], _∷_}
-use mathlib.Core.Bool.{Bool, true, false, cond, not, _&&_}
+use mathlib.Core.Bool.{Bool, true, cond, not, _&&_}
 use lib.Dec.{eqb, ltb, leb}
 use lib.ListN.{length}
 use Rattle.model.specs.Number.{accepted, policyLength, policyMark, policyRange, rowPrincipal, rowOwner, rowGrants, unless, first, firstBelow}

@@ -1,14 +1,14 @@
 -- Reading a program from its bytes: the tree, or the number 10 to 14 with its place, at the first byte in reading order that shows one.
 use Prim.Native.Nat.{ℕ, zero, suc, _+_, _-_, _*_}
 use mathlib.Core.List.{List, [], _∷_}
-use mathlib.Core.Bool.{Bool, true, false, cond, _||_}
+use mathlib.Core.Bool.{cond, _||_}
 use lib.Dec.{eqb, ltb, leb}
-use lib.ListN.{length, getD}
+use lib.ListN.{length}
 use Rattle.model.specs.Number.{programLength, programMark, programCode, programRange, programDepth}
 use Rattle.model.specs.Bytes.{byte, word}
-use Rattle.model.specs.Policy.{Side, reading, trust}
+use Rattle.model.specs.Policy.{reading, trust}
 use Rattle.model.specs.Mutation.{Kind, addMember, deleteMember, addTaken, deleteTaken, Mutation}
-use Rattle.model.specs.Syntax.{Fixed, of, everyone, Atom, role, fixed, Query, Operator, sum, difference, product, quotient, less, equal, Expr, constant, variable, binary, Stmt, skip, assign, empty, block, if, while, query, update, transaction}
+use Rattle.model.specs.Syntax.{of, everyone, Atom, role, fixed, Query, Operator, sum, difference, product, quotient, less, equal, Expr, constant, variable, binary, Stmt, skip, assign, empty, block, if, while, query, update, transaction}
 
 -- what reading finds: a value and the position after it, or a number and the place that shows it
 pub data Read (A : Type 0) : Type 0 where

@@ -1,5 +1,5 @@
 -- A set of numbers as the bits of a number: bit i says whether i is in it.
-use Prim.Native.Nat.{ℕ, zero, suc, _-_, _/_, _%_, _^_}
+use Prim.Native.Nat.{ℕ, _-_, _/_, _%_, _^_}
 use mathlib.Core.Bool.{Bool, cond}
 use lib.Dec.{eqb}
 use lib.Bits.{bitOr, bitAnd}

@@ -1,7 +1,7 @@
 -- A law for each return of check.rt: the tests that led there say which number the definition gives.
-use mathlib.Core.Path.{_≡_, refl, sym, ap, _∙_}
+use mathlib.Core.Path.{_≡_, refl, sym, _∙_}
 use Prim.Native.Nat.{ℕ, zero, suc, _+_, _*_, _-_, _^_, _<_, _≤_}
-use mathlib.Core.List.{List, [], _∷_}
+use mathlib.Core.List.{List}
 use mathlib.Core.Bool.{Bool, true, false}
 use native.Mathlib.Omega.{arith}
 use native.Mathlib.Numerals.{add-one}
@@ -10,8 +10,8 @@ use lib.ListN.{length}
 use borrow.Author.Tests.{lt-ltb, le-ltb, le-leb, lt-leb, eq-eqb, ne-eqb, ltb-true, not-true, not-false}
 use Rattle.model.specs.Number.{first, firstBelow}
 use Rattle.model.specs.Sets.{has, within}
-use Rattle.model.specs.Bytes.{byte, startsWith}
-use Rattle.model.specs.Policy.{policyHead, principals, roles, rowAt, owner, name, viewers, trusters, members, takes, mayTake, headNumber, principalNumber, ownerNumber, pairNumber, rowNumber, takenNumber, takesNumber, grantsNumber, policyNumber}
+use Rattle.model.specs.Bytes.{startsWith}
+use Rattle.model.specs.Policy.{policyHead, principals, roles, rowAt, owner, name, viewers, trusters, members, takes, headNumber, principalNumber, ownerNumber, pairNumber, rowNumber, takenNumber, takesNumber, grantsNumber, policyNumber}
 use Rattle.model.proofs.Accepted.{head-zero}
 
 -- the head

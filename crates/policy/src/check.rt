@@ -1,7 +1,7 @@
 // The number 0 to 6 of any bytes as a policy, in the order that document 01 fixes: the head, then 4 and 5 row by row, then 6.
 ghost use mathlib.Core.Path.{_≡_};
-ghost use mathlib.Core.Bool.{Bool, true, false};
-ghost use Prim.Native.Nat.{ℕ, _+_, _^_, _<_, _≤_};
+ghost use mathlib.Core.Bool.{true};
+ghost use Prim.Native.Nat.{_+_, _^_, _<_, _≤_};
 ghost use lib.ListN.{length};
 ghost use Rattle.model.specs.Number.{firstBelow};
 ghost use Rattle.model.specs.Sets.{has};

@@ -1,6 +1,6 @@
 // The meaning of a role: the least sets where each role holds its members and all that the roles it takes hold.
 ghost use mathlib.Core.Path.{_≡_};
-ghost use Prim.Native.Nat.{ℕ, _+_, _^_, _<_, _≤_};
+ghost use Prim.Native.Nat.{_^_, _<_, _≤_};
 ghost use lib.Bits.{bitOr};
 ghost use lib.ListN.{length};
 ghost use Rattle.model.specs.Policy.{roles, members, takes, Accepted};

@@ -1,6 +1,6 @@
 // The fields of row i of a policy. The row must lie within the bytes.
 ghost use mathlib.Core.Path.{_≡_};
-ghost use Prim.Native.Nat.{ℕ, _+_, _≤_};
+ghost use Prim.Native.Nat.{_+_, _≤_};
 ghost use lib.ListN.{length};
 ghost use Rattle.model.specs.Policy.{rowAt, viewers, trusters, members, takes};
 use super::bytes;

@@ -1,7 +1,7 @@
 // Sets of principals or roles as the bits of a word. Each function takes every word and every number.
 ghost use mathlib.Core.Path.{_≡_};
-ghost use mathlib.Core.Bool.{Bool, true, false};
-ghost use Prim.Native.Nat.{ℕ, _^_, _<_};
+ghost use mathlib.Core.Bool.{true, false};
+ghost use Prim.Native.Nat.{_^_, _<_};
 ghost use lib.Count.{trailingZeros};
 ghost use lib.Dec.{ltb};
 ghost use Rattle.model.specs.Sets.{has, within, without};

@@ -1,6 +1,6 @@
 use Rattle.model.specs.Policy.{grantsNumber}
 use Rattle.model.specs.Number.{firstBelow}
-use Prim.Native.Nat.{ℕ, _≤_, _-_, _+_}
+use Prim.Native.Nat.{_≤_, _-_}
 use mathlib.Core.Path.{_≡_}
 use Rattle.policy.proofs.CheckLaws.{loops}
 use borrow.Author.Needs.{needs}

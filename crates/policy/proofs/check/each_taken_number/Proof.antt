@@ -1,6 +1,4 @@
 use Rattle.policy.proofs.TakesLaws.{Passed, Left}
-use Prim.Native.Nat.{ℕ, _≤_, _-_, _+_}
-use mathlib.Core.Path.{_≡_}
 use Rattle.policy.proofs.TakesLaws.{takes-laws}
 use borrow.Author.Needs.{needs}
 use Rattle.policy.proofs.check.each_taken_number.Statement.{statement}

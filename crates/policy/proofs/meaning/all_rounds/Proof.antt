@@ -1,6 +1,6 @@
 use lib.ListN.{length}
 use Rattle.model.specs.Meaning.{rounds}
-use Prim.Native.Nat.{ℕ, _≤_, _-_, _+_}
+use Prim.Native.Nat.{_≤_, _-_}
 use mathlib.Core.Path.{_≡_}
 use Rattle.policy.proofs.MeaningLaws.{rounds-laws}
 use borrow.Author.Needs.{needs}

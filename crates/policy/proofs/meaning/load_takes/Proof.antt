@@ -2,7 +2,7 @@ use native.Mathlib.Omega.{arith}
 use Rattle.model.specs.Policy.{roles, takes}
 use lib.ListN.{length, take, length-set}
 use Rattle.model.specs.Meaning.{column}
-use Prim.Native.Nat.{ℕ, _≤_, _-_, _+_}
+use Prim.Native.Nat.{_≤_, _-_}
 use mathlib.Core.Path.{_≡_}
 use Rattle.policy.proofs.MeaningLaws.{column-laws}
 use borrow.Author.Needs.{needs}

@@ -3,7 +3,7 @@ use mathlib.Core.Logic.{⊎-elim}
 use Rattle.policy.specs.Rounds.{Still}
 use lib.ListN.{length, length-set}
 use Rattle.model.specs.Meaning.{steps}
-use Prim.Native.Nat.{ℕ, _≤_, _-_, _+_}
+use Prim.Native.Nat.{_≤_, _-_}
 use mathlib.Core.Path.{_≡_}
 use Rattle.policy.proofs.MeaningLaws.{round-laws}
 use borrow.Author.Needs.{needs}

@@ -1,7 +1,7 @@
 use lib.Bits.{bitOr}
 use lib.ListN.{length}
 use Rattle.model.specs.Meaning.{gather}
-use Prim.Native.Nat.{ℕ, _^_, _<_}
+use Prim.Native.Nat.{_^_, _<_}
 use mathlib.Core.Path.{_≡_}
 use Rattle.policy.proofs.MeaningLaws.{unions}
 use borrow.Author.Needs.{needs}

@@ -1,0 +1,30 @@
+-- What the calls about a program give, each as one value.
+use Prim.Native.Nat.{ℕ}
+use mathlib.Core.List.{List}
+use lib.ListN.{take, drop}
+use Rattle.model.specs.Number.{Verdict, numberOf, placeOf}
+use Rattle.model.specs.Flow.{Part, part, programVerdict, transactionPart}
+
+-- asking where a number shows: the number and the place
+pub data Located : Type 0 where
+  located : (number place : ℕ) → Located
+
+unfoldable pub locate : Verdict → Located
+locate v = located (numberOf v) (placeOf v)
+
+abbrev pub placeAnswer : List ℕ → List ℕ → Located
+placeAnswer s p = locate (programVerdict s p)
+
+-- asking for a transaction's body: the number, and where the body starts and how long it is
+pub data Body : Type 0 where
+  body : (number start size : ℕ) → Body
+
+unfoldable pub bodyOf : Verdict → Part → Body
+bodyOf v (part start size) = body (numberOf v) start size
+
+abbrev pub transactionAnswer : List ℕ → List ℕ → ℕ → Body
+transactionAnswer s p k = bodyOf (programVerdict s p) (transactionPart s p k)
+
+-- the bytes of a part of the program
+unfoldable pub partBytes : List ℕ → Part → List ℕ
+partBytes p (part start size) = take size (drop start p)
