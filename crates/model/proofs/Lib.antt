@@ -21,4 +21,13 @@ pub mod RunRestart
 pub mod RunLaws
 pub mod RunPolicy
 pub mod RunFuel
+pub mod Sees
+pub mod Openness
+pub mod Updates
+pub mod Runs
+pub mod States
+pub mod Along
+pub mod Confined
+pub mod InStep
+pub mod Demand3
 pub mod Examples

@@ -1,0 +1,64 @@
+-- Demand 3: a run that returns 0 has run the body of an accepted program to its end; two such ran one body from alike states, and in step they end alike, as around a whole program there is no transaction that could be hidden.
+use Prim.Native.Nat.{ℕ, _<_}
+use native.Mathlib.Omega.{arith}
+use mathlib.Core.Path.{_≡_, refl, sym, _∙_}
+use mathlib.Core.Logic.{⊎-elim}
+use mathlib.Core.List.{List, []}
+use mathlib.Core.Bool.{true}
+use Rattle.model.specs.Number.{accepted}
+use Rattle.model.specs.Policy.{Side, principals, roles, SameFixed}
+use Rattle.model.specs.Syntax.{of}
+use Rattle.model.specs.Program.{got, variables, readProgram}
+use Rattle.model.specs.Order.{fixedSet}
+use Rattle.model.specs.Atoms.{atomSet}
+use Rattle.model.specs.Value.{valueAt}
+use Rattle.model.specs.Run.{Outcome}
+use Rattle.model.specs.Claim.{openRow, openVariable, NoGain, OpenRowsAgree, OpenValuesAgree, SameOpenEnds, Demand3}
+use Rattle.model.proofs.FlowParts.{AcceptedProgram}
+use Rattle.model.proofs.Openness.{Setting, isOpen, Near, good-base, open-fixed, open-same}
+use Rattle.model.proofs.InStep.{in-step}
+use Rattle.model.proofs.RunLaws.{Begins, Ran, refuses, finishes, spends, ran}
+use Rattle.model.proofs.Runs.{ends, Runs, execute-runs}
+use Rattle.model.proofs.States.{labelOf, Alike}
+
+-- a run that returned 0 ran the body of an accepted program to its end
+record Finished (s p m : List ℕ) (f : ℕ) (r : Outcome) : Type 0 where
+  begins : Begins s p m f
+  body-ran : Runs [] (begins .program .body) s m (ends (r .policy) (r .memory)) (r .updates)
+
+finished : {s p m : List ℕ} {f : ℕ} {r : Outcome} → Ran s p m f r → r .number ≡ accepted → Finished s p m f r
+finished (refuses k some few) h = absurd (omega arith)
+finished {s} {p} {m} {f} (finishes b e) h = record { begins = b; body-ran = rw e at (execute-runs (b .program .body) [] f s m) }
+finished (spends b e) h = absurd (omega arith)
+
+-- near policies, and memories that agree on what is open, make ends as claimed
+claimed : {S : Setting} {one two : Outcome} → Near S (one .policy) (two .policy)
+    → ((x : ℕ) → x < variables (S .program) → isOpen S (one .policy) (labelOf S x) ≡ true → valueAt (one .memory) x ≡ valueAt (two .memory) x)
+    → SameOpenEnds (S .side) (S .group) (S .program) one two
+unfolding isOpen openRow openVariable atomSet fixedSet
+claimed {S} k f = record {
+  rows = λ r l o. k .rows r (rw (k .good1 .same-base .same-roles) l) (sym (open-fixed (k .good1) (of (S .side) r)) ∙ o);
+  variables-open = λ x l. open-same k (labelOf S x);
+  values = f;
+}
+
+-- the setting of a first run
+setting : Side → ℕ → {p a : List ℕ} → AcceptedProgram a p → Setting
+setting side group {p} {a} h = record { side = side; group = group; program = p; base = a; base-accepted = h .policy; few = h .few }
+
+-- two finished runs
+both-finished : {side : Side} {group : ℕ} {p a b m n : List ℕ} {i j : ℕ} {one two : Outcome}
+    → SameFixed a b → OpenRowsAgree side group a b → OpenValuesAgree side group p a m n
+    → NoGain group (one .updates) → Finished a p m i one → Finished b p n j two → SameOpenEnds side group p one two
+unfolding setting isOpen openRow openVariable atomSet fixedSet
+both-finished {side} {group} {p} {a} {b} {m} {n} {one} {two} same rows values f x y =
+    let S = setting side group (x .begins .program) in
+    let near : Near S a b = record { good1 = good-base S; good2 = record { accepted = y .begins .program .policy; same-base = same }; rows = rows } in
+    let start : Alike S a m b n = record { near = near; room1 = x .begins .memory-fits; room2 = y .begins .memory-fits; values = values } in
+    let read : readProgram p (principals b) (roles b) ≡ got (x .begins .program .body) (x .begins .program .end) = rw (same .same-principals, same .same-roles) at (x .begins .program .is-read) in
+    let body : y .begins .program .body ≡ x .begins .program .body = cc in
+    let run-two : Runs [] (x .begins .program .body) b n (ends (two .policy) (two .memory)) (two .updates) = rw body at (y .body-ran) in
+    ⊎-elim absurd (λ k. claimed (k .near) (k .values)) (in-step S (x .begins .program .placed) (x .body-ran) run-two refl refl start f)
+
+pub demand-3 : Demand3
+demand-3 side group p a b m n f g same rows values ra rb na nb = both-finished same rows values na (finished (ran a p m f) ra) (finished (ran b p n g) rb)

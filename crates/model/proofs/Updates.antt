@@ -1,0 +1,112 @@
+-- An accepted update keeps the policy accepted with its fixed part, does the same to a row that agrees in two policies, and leaves all rows but those that its transaction mutates; so if these are hidden it changes no open row (F3).
+use Prim.Native.Nat.{ℕ, _<_}
+use native.Mathlib.Omega.{arith}
+use native.Mathlib.Decide.{ℕ-discrete}
+use mathlib.Core.Path.{_≡_, refl, sym, _∙_}
+use mathlib.Core.List.{List, [], _∷_, List·Memᴰ·head, List·Memᴰ·tail}
+use mathlib.Core.Bool.{true, false}
+use Rattle.model.specs.Sets.{has}
+use Rattle.model.specs.Policy.{roles, SameFixed, Agree}
+use Rattle.model.specs.Mutation.{Kind, addMember, deleteMember, addTaken, deleteTaken, operandBelow, mutate, Mutation}
+use Rattle.model.specs.Run.{mutateAll}
+use Rattle.model.proofs.Accepted.{accepted-facts}
+use Rattle.model.proofs.Fits.{Each}
+use Rattle.model.proofs.Fixed.{fixed-trans, agree-refl, agree-trans}
+use Rattle.model.proofs.FlowParts.{Mutates}
+use Rattle.model.proofs.Mutation.{mutate-fixed, mutate-other, mutate-row, mutate-accepted, allowed-fixed, membersAfter, takesAfter}
+use Rattle.model.proofs.Openness.{Setting, rowOpen, Good, Near}
+use Rattle.model.proofs.Sees.{clash}
+
+operand-fixed : {a b : List ℕ} → SameFixed a b → (k : Kind) → operandBelow a k ≡ operandBelow b k
+operand-fixed f addMember = f .same-principals
+operand-fixed f deleteMember = f .same-principals
+operand-fixed f addTaken = f .same-roles
+operand-fixed f deleteTaken = f .same-roles
+
+-- a mutation that acceptance let through, of a policy with the fixed part
+module _ {S : Setting} {rs : ℕ} {m : Mutation} (h : Mutates (S .base) rs m) where
+  role-there : {s : List ℕ} → Good S s → m .role < roles s
+  role-there g = rw (g .same-base .same-roles) at (h .role-below)
+
+  operand-there : {s : List ℕ} → Good S s → m .operand < operandBelow s (m .kind)
+  operand-there g = rw (operand-fixed (g .same-base) (m .kind)) at (h .operand-below)
+
+  mutation-good : {s : List ℕ} → Good S s → Good S (mutate s (m .kind) (m .role) (m .operand))
+  mutation-good {s} g = record {
+    accepted = mutate-accepted s (m .kind) (m .role) (m .operand) (g .accepted) (role-there g) (operand-there g)
+        (sym (allowed-fixed (g .same-base) (m .kind) (m .role) (m .operand) (h .role-below) (h .operand-below)) ∙ h .is-allowed);
+    same-base = fixed-trans (g .same-base) (mutate-fixed s (m .kind) (m .role) (m .operand));
+  }
+
+  mutation-same : {a b : List ℕ} → Good S a → Good S b → (r : ℕ) → Agree a b r → Agree (mutate a (m .kind) (m .role) (m .operand)) (mutate b (m .kind) (m .role) (m .operand)) r
+  mutation-same {a} {b} f g r e = go (ℕ-discrete r (m .role))
+    where
+      members-same : (k : Kind) (x : ℕ) → Agree a b (m .role) → membersAfter a k (m .role) x ≡ membersAfter b k (m .role) x
+      members-same addMember x e = rw (e .same-members)
+      members-same deleteMember x e = rw (e .same-members)
+      members-same addTaken x e = e .same-members
+      members-same deleteTaken x e = e .same-members
+
+      takes-same : (k : Kind) (x : ℕ) → Agree a b (m .role) → takesAfter a k (m .role) x ≡ takesAfter b k (m .role) x
+      takes-same addMember x e = e .same-takes
+      takes-same deleteMember x e = e .same-takes
+      takes-same addTaken x e = rw (e .same-takes)
+      takes-same deleteTaken x e = rw (e .same-takes)
+
+      go : Dec (r ≡ m .role) → Agree (mutate a (m .kind) (m .role) (m .operand)) (mutate b (m .kind) (m .role) (m .operand)) r
+      go (yes i) =
+          let u = mutate-row a (m .kind) (m .role) (m .operand) (f .accepted) (role-there f) (operand-there f) in
+          let v = mutate-row b (m .kind) (m .role) (m .operand) (g .accepted) (role-there g) (operand-there g) in
+          let d : Agree a b (m .role) = rw i at e in
+          rw i record {
+            same-members = u .0 ∙ members-same (m .kind) (m .operand) d ∙ sym (v .0);
+            same-takes = u .1 ∙ takes-same (m .kind) (m .operand) d ∙ sym (v .1);
+          }
+      go (no n) =
+          let u = mutate-other a (m .kind) (m .role) (m .operand) r n in
+          let v = mutate-other b (m .kind) (m .role) (m .operand) r n in
+          record {
+            same-members = sym (u .same-members) ∙ e .same-members ∙ v .same-members;
+            same-takes = sym (u .same-takes) ∙ e .same-takes ∙ v .same-takes;
+          }
+
+-- a row that the transaction does not mutate ends unchanged
+update-other : {base : List ℕ} {rs : ℕ} (ms : List Mutation) (s : List ℕ) → Each (Mutates base rs) ms → (r : ℕ) → (has rs r ≡ true → ⊥) → Agree s (mutateAll s ms) r
+unfolding mutateAll
+update-other [] s h r n = agree-refl s r
+update-other (m ∷ ms) s h r n = agree-trans
+    (mutate-other s (m .kind) (m .role) (m .operand) r (λ e. n (rw e (h m (List·Memᴰ·head refl) .named))))
+    (update-other ms (mutate s (m .kind) (m .role) (m .operand)) (λ k i. h k (List·Memᴰ·tail i)) r n)
+
+module _ {S : Setting} {rs : ℕ} where
+  pub update-good : (ms : List Mutation) {s : List ℕ} → Each (Mutates (S .base) rs) ms → Good S s → Good S (mutateAll s ms)
+  unfolding mutateAll
+  update-good [] h g = g
+  update-good (m ∷ ms) h g = update-good ms (λ k i. h k (List·Memᴰ·tail i)) (mutation-good (h m (List·Memᴰ·head refl)) g)
+
+  -- two policies that agree on a row still do after the same update
+  update-same : (ms : List Mutation) {a b : List ℕ} → Each (Mutates (S .base) rs) ms → Good S a → Good S b → (r : ℕ) → Agree a b r → Agree (mutateAll a ms) (mutateAll b ms) r
+  unfolding mutateAll
+  update-same [] h f g r e = e
+  update-same (m ∷ ms) h f g r e =
+      let k = h m (List·Memᴰ·head refl) in
+      update-same ms (λ n i. h n (List·Memᴰ·tail i)) (mutation-good k f) (mutation-good k g) r (mutation-same k f g r e)
+
+  pub update-near : (ms : List Mutation) {a b : List ℕ} → Each (Mutates (S .base) rs) ms → Near S a b → Near S (mutateAll a ms) (mutateAll b ms)
+  update-near ms h n = record {
+    good1 = update-good ms h (n .good1);
+    good2 = update-good ms h (n .good2);
+    rows = λ r l o. update-same ms h (n .good1) (n .good2) r (n .rows r l o);
+  }
+
+-- the roles of a set have hidden rows
+abbrev pub RowsHidden : Setting → ℕ → Type 0
+RowsHidden S rs = (r : ℕ) → r < 64 → has rs r ≡ true → rowOpen S r ≡ false
+
+-- F3: where all mutated rows are hidden, no open row changes
+pub hidden-update : {S : Setting} {rs : ℕ} (ms : List Mutation) {s : List ℕ} → Each (Mutates (S .base) rs) ms → Good S s → RowsHidden S rs → Near S s (mutateAll s ms)
+hidden-update {S} ms {s} h g hidden = record {
+  good1 = g;
+  good2 = update-good ms h g;
+  rows = λ r l o. update-other ms s h r (λ i. clash o (hidden r (omega (arith, accepted-facts (S .base) (S .base-accepted) .roles-fit)) i));
+}
