@@ -7,6 +7,7 @@ use Rattle.model.specs.Policy.{Side}
 use Rattle.model.specs.Mutation.{Mutation}
 use Rattle.model.specs.Syntax.{Atom, Query, Stmt}
 use Rattle.model.specs.Flow.{Around, outside, inside}
+use Rattle.model.specs.Atoms.{holds}
 use Rattle.model.specs.Run.{Update, mutateAll}
 use Rattle.model.specs.Claim.{NoGain}
 use Rattle.model.proofs.Fits.{Each, each-cons}
@@ -30,14 +31,18 @@ Stands S around known context x = Placed (S .base) (S .program) around known con
 pub rule : (S : Setting) {around : Around} {known : List Query} {context : Side → List Atom} {x : Stmt} → Stands S around known context x → Parts (S .base) (S .program) around known context x
 rule S = parts (S .base) (S .program) (S .base-accepted)
 
--- what is known: nothing outside a transaction, and inside it what holds now
+-- known queries are listed, and hold now
+abbrev pub ListedHold : List Query → List Query → List ℕ → Type 0
+ListedHold listed known s = Each (λ q. List·Memᴰ q listed × (holds s q ≡ true)) known
+
+-- what is known: nothing outside a transaction, and inside it listed queries that hold
 abbrev pub Known : Around → List Query → List ℕ → Type 0
 Known outside known s = known ≡ []
-Known (inside listed xs rs) known s = AllHold s known
+Known (inside listed xs rs) known s = ListedHold listed known s
 
 pub all-hold : (around : Around) (known : List Query) (s : List ℕ) → Known around known s → AllHold s known
 all-hold outside known s e = λ q i. absurd (List·Memᴰ·not-nil (subst (λ (k : List Query). List·Memᴰ q k) e i))
-all-hold (inside listed xs rs) known s h = h
+all-hold (inside listed xs rs) known s h = λ q i. h q i .1
 
 -- no gain in a trace is none in its parts
 pub no-gain-first : {group : ℕ} (us vs : List Update) → NoGain group (us ++ vs) → NoGain group us
@@ -74,11 +79,11 @@ module _ (S : Setting) where
   known-stays h (run-stop t) w = w
   known-stays h (run-more t d e) w = known-stays h e (known-stays (rule S h) d w)
   known-stays {around = outside} h (run-holds t d) w = w
-  known-stays {around = inside _ _ _} h (run-holds t d) w = λ k i. known-stays (rule S h .1) d (each-cons t w) k (List·Memᴰ·tail i)
+  known-stays {around = inside _ _ _} h (run-holds t d) w = λ k i. known-stays (rule S h .1) d (each-cons (rule S h .0, t) w) k (List·Memᴰ·tail i)
   known-stays {around = outside} h (run-fails t d) w = w
   known-stays {around = inside _ _ _} h (run-fails t d) w = known-stays (rule S h .2) d w
   known-stays {around = outside} h (run-update t) w = w
-  known-stays {around = inside listed _ _} h (run-update {s = s} t) w = λ k i. unbroken listed s _ t k (h .surrounded .known-listed k i) (w k i)
+  known-stays {around = inside listed _ _} h (run-update {s = s} t) w = λ k i. (w k i .0, unbroken listed s _ t k (w k i .0) (w k i .1))
   known-stays {around = outside} h (run-transaction d) w = w
   known-stays {around = inside _ _ _} h (run-transaction d) w = absurd (rule S h)
   known-stays {around = outside} h (run-again d e) w = w

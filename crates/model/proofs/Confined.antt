@@ -2,20 +2,19 @@
 use Prim.Native.Nat.{ℕ, _<_}
 use native.Mathlib.Omega.{arith}
 use mathlib.Core.Path.{_≡_, refl, sym, _∙_}
-use mathlib.Core.List.{List, [], _++_, List·Memᴰ·not-nil}
+use mathlib.Core.List.{List, [], List·Memᴰ, List·Memᴰ·not-nil, Memᴰ·append-left, Memᴰ·append-right}
 use mathlib.Core.Bool.{true, false}
 use Rattle.model.specs.Sets.{has}
 use Rattle.model.specs.Policy.{Side}
 use Rattle.model.specs.Syntax.{of, Atom, Query, Expr, Stmt, assign, while, transaction}
-use Rattle.model.specs.Flow.{exprLabel, queryLabel, listLabel, assigned, mutated, Around, outside, inside}
+use Rattle.model.specs.Flow.{underExpr, underQuery, updateJoin, assigned, mutated, Around, outside, inside}
 use Rattle.model.specs.Value.{evaluate}
 use Rattle.model.specs.Run.{Update}
-use Rattle.model.proofs.Along.{listedOf, Stands, rule, Known, all-hold, known-stays}
-use Rattle.model.proofs.Fits.{each-cons}
+use Rattle.model.proofs.Along.{listedOf, Stands, rule, ListedHold, Known, all-hold, known-stays}
+use Rattle.model.proofs.Fits.{Each, each-cons}
 use Rattle.model.proofs.FlowParts.{UpdatesOn}
-use Rattle.model.proofs.Openness.{Setting, isOpen, Good, Near, near-sym, near-trans, open-fixed, open-same, Hidden, hidden-near, hidden-left, hidden-right, hides}
+use Rattle.model.proofs.Openness.{Setting, isOpen, Good, Near, near-sym, near-trans, open-fixed, open-same, Hidden, hidden-near, hidden-in, hides}
 use Rattle.model.proofs.Runs.{End, ends, rolls, Runs, run-skip, run-assign, run-empty, run-block, run-block-rolls, run-then, run-else, run-stop, run-more, run-more-rolls, run-holds, run-fails, run-update, run-update-rolls, run-transaction, run-again}
-use Rattle.model.proofs.Semantics.{AllHold}
 use Rattle.model.proofs.States.{labelOf, Room, Alike, alike-refl, alike-trans, assign-hidden}
 use Rattle.model.proofs.Updates.{RowsHidden, hidden-update}
 
@@ -44,9 +43,16 @@ unseen-near : {S : Setting} {around : Around} {a b : List ℕ} {context : List A
 unseen-near n (by-context h) = by-context (hidden-near n h)
 unseen-near {around} n (by-transaction h) = by-transaction (hidden-around-near around n h)
 
-unseen-more : {S : Setting} {around : Around} {s : List ℕ} {context : List Atom} (join : List Atom) → Unseen S around s context → Unseen S around s (join ++ context)
-unseen-more join (by-context h) = by-context (hidden-right join h)
-unseen-more join (by-transaction h) = by-transaction h
+unseen-in : {S : Setting} {around : Around} {s : List ℕ} {j k : List Atom} → Each (λ a. List·Memᴰ a k) j → Unseen S around s j → Unseen S around s k
+unseen-in f (by-context h) = by-context (hidden-in f h)
+unseen-in f (by-transaction h) = by-transaction h
+
+-- under a guard or a query the context only grows
+grows-expr : (p : List ℕ) (e : Expr) (context : Side → List Atom) (side : Side) → Each (λ a. List·Memᴰ a (underExpr p e context side)) (context side)
+grows-expr p e context side a i = search Memᴰ·append-right
+
+grows-query : (q : Query) (context : Side → List Atom) (side : Side) → Each (λ a. List·Memᴰ a (underQuery q context side)) (context side)
+grows-query q context side a i = search Memᴰ·append-right
 
 -- outside a transaction only the context can be the reason
 unseen-into : {S : Setting} {s : List ℕ} {context : List Atom} (around : Around) → Unseen S outside s context → Unseen S around s context
@@ -62,23 +68,23 @@ calm-after : {S : Setting} {s m t n : List ℕ} (around : Around) (o : End) → 
 calm-after around (ends u k) a c = alike-trans a c
 calm-after around (rolls u) a c = (near-trans (a .near) (c .0), hidden-around-near around (near-sym (a .near)) (c .1))
 
-pub nothing-known : (s : List ℕ) → AllHold s []
-nothing-known s q i = absurd (List·Memᴰ·not-nil i)
+pub nothing-known : (listed : List Query) (s : List ℕ) → ListedHold listed [] s
+nothing-known listed s q i = absurd (List·Memᴰ·not-nil i)
 
 module _ (S : Setting) where
   -- an update whose join has a hidden atom stands in a hidden transaction
   pub update-hidden : {listed known : List Query} {xs rs : ℕ} {context : Side → List Atom} {s : List ℕ}
-      → ((side : Side) → UpdatesOn (S .base) (S .program) known context listed xs rs side) → Good S s → AllHold s known
-      → Hidden S s (context (S .side) ++ listLabel (S .side) listed) → AllHidden S xs rs s
+      → ((side : Side) → UpdatesOn (S .base) (S .program) known context listed xs rs side) → Good S s → ListedHold listed known s
+      → Hidden S s (updateJoin context listed (S .side)) → AllHidden S xs rs s
   update-hidden k g w h = record {
-    rows-hidden = λ r l i. sym (open-fixed g (of (S .side) r)) ∙ hides g w (k (S .side) .roles-above r l i) h;
-    variables-hidden = λ x l i. hides g w (k (S .side) .variables-above x l i) h;
+    rows-hidden = λ r l i. sym (open-fixed g (of (S .side) r)) ∙ hides g (λ q j. w q j .1) (k (S .side) .roles-above r l i) h;
+    variables-hidden = λ x l i. hides g (λ q j. w q j .1) (k (S .side) .variables-above x l i) h;
   }
 
   update-unseen : {listed known : List Query} {xs rs : ℕ} {context : Side → List Atom} {s : List ℕ}
-      → ((side : Side) → UpdatesOn (S .base) (S .program) known context listed xs rs side) → Good S s → AllHold s known
+      → ((side : Side) → UpdatesOn (S .base) (S .program) known context listed xs rs side) → Good S s → ListedHold listed known s
       → Unseen S (inside listed xs rs) s (context (S .side)) → AllHidden S xs rs s
-  update-unseen {listed} k g w (by-context h) = update-hidden k g w (hidden-left (listLabel (S .side) listed) h)
+  update-unseen k g w (by-context h) = update-hidden k g w (hidden-in (λ a i. search Memᴰ·append-left) h)
   update-unseen k g w (by-transaction h) = h
 
   -- an assignment out of sight is to a hidden variable
@@ -97,17 +103,17 @@ module _ (S : Setting) where
       let a = confined (rule S h .0) d g r w y in
       calm-after around o a (confined (rule S h .1) e (a .near .good2) (a .room2) (known-stays S (rule S h .0) d w) (unseen-near (a .near) y))
   confined h (run-block-rolls d) g r w y = confined (rule S h .0) d g r w y
-  confined h (run-then {e = e} t d) g r w y = confined (rule S h .0) d g r w (unseen-more (exprLabel (S .program) (S .side) e) y)
-  confined h (run-else {e = e} t d) g r w y = confined (rule S h .1) d g r w (unseen-more (exprLabel (S .program) (S .side) e) y)
+  confined {context} h (run-then {e = e} t d) g r w y = confined (rule S h .0) d g r w (unseen-in (grows-expr (S .program) e context (S .side)) y)
+  confined {context} h (run-else {e = e} t d) g r w y = confined (rule S h .1) d g r w (unseen-in (grows-expr (S .program) e context (S .side)) y)
   confined h (run-stop t) g r w y = alike-refl g r
-  confined {around} h (run-more {e = e} {o = o} t d f) g r w y =
-      let a = confined (rule S h) d g r w (unseen-more (exprLabel (S .program) (S .side) e) y) in
+  confined {around} {context} h (run-more {e = e} {o = o} t d f) g r w y =
+      let a = confined (rule S h) d g r w (unseen-in (grows-expr (S .program) e context (S .side)) y) in
       calm-after around o a (confined h f (a .near .good2) (a .room2) (known-stays S (rule S h) d w) (unseen-near (a .near) y))
-  confined h (run-more-rolls {e = e} t d) g r w y = confined (rule S h) d g r w (unseen-more (exprLabel (S .program) (S .side) e) y)
+  confined {context} h (run-more-rolls {e = e} t d) g r w y = confined (rule S h) d g r w (unseen-in (grows-expr (S .program) e context (S .side)) y)
   confined {around = outside} h (run-holds t d) g r w y = absurd (rule S h)
-  confined {around = inside _ _ _} h (run-holds {q = q} t d) g r w y = confined (rule S h .1) d g r (each-cons t w) (unseen-more (queryLabel (S .side) q) y)
+  confined {around = inside _ _ _} {context} h (run-holds {q = q} t d) g r w y = confined (rule S h .1) d g r (each-cons (rule S h .0, t) w) (unseen-in (grows-query q context (S .side)) y)
   confined {around = outside} h (run-fails t d) g r w y = absurd (rule S h)
-  confined {around = inside _ _ _} h (run-fails {q = q} t d) g r w y = confined (rule S h .2) d g r w (unseen-more (queryLabel (S .side) q) y)
+  confined {around = inside _ _ _} {context} h (run-fails {q = q} t d) g r w y = confined (rule S h .2) d g r w (unseen-in (grows-query q context (S .side)) y)
   confined {around = outside} h (run-update t) g r w y = absurd (rule S h)
   confined {around = inside _ _ _} h (run-update {ms = ms} t) g r w y =
       let v = update-unseen (rule S h .1) g w y in
@@ -116,10 +122,10 @@ module _ (S : Setting) where
   confined {around = inside _ _ _} h (run-update-rolls {ms = ms} t) g r w y =
       let v = update-unseen (rule S h .1) g w y in
       (hidden-update ms (rule S h .0) g (v .rows-hidden), v)
-  confined {around = outside} {s} h (run-transaction {qs = qs} {a = a} d) g r w y = confined (rule S h) d g r (nothing-known s) (unseen-into (inside qs (assigned a) (mutated a)) y)
+  confined {around = outside} {s} h (run-transaction {qs = qs} {a = a} d) g r w y = confined (rule S h) d g r (nothing-known qs s) (unseen-into (inside qs (assigned a) (mutated a)) y)
   confined {around = inside _ _ _} h (run-transaction d) g r w y = absurd (rule S h)
   confined {around = outside} {s} h (run-again {qs = qs} {a = a} d e) g r w y =
-      let c = confined (rule S h) d g r (nothing-known s) (unseen-into (inside qs (assigned a) (mutated a)) y) in
+      let c = confined (rule S h) d g r (nothing-known qs s) (unseen-into (inside qs (assigned a) (mutated a)) y) in
       alike-trans (record { near = c .0; room1 = r; room2 = r; values = λ x l o. refl }) (confined h e (c .0 .good2) r w (unseen-near (c .0) y))
   confined {around = inside _ _ _} h (run-again d e) g r w y = absurd (rule S h)
 
@@ -137,8 +143,8 @@ module _ (S : Setting) where
   pub confined-transaction : {l qs : List Query} {at start end : ℕ} {context : Side → List Atom} {x : Stmt} {s m s₁ m₁ : List ℕ} {us : List Update}
       → Stands S (inside qs (assigned x) (mutated x)) [] context x → Runs l (transaction at start end qs x) s m (ends s₁ m₁) us → Good S s → Room S m
       → AllHidden S (assigned x) (mutated x) s → Alike S s m s₁ m₁
-  confined-transaction {s} h (run-transaction d) g r v = confined h d g r (nothing-known s) (by-transaction v)
+  confined-transaction {qs} {s} h (run-transaction d) g r v = confined h d g r (nothing-known qs s) (by-transaction v)
   confined-transaction {qs} {x} {s} h (run-again d e) g r v =
-      let c = confined h d g r (nothing-known s) (by-transaction v) in
+      let c = confined h d g r (nothing-known qs s) (by-transaction v) in
       alike-trans (record { near = c .0; room1 = r; room2 = r; values = λ y l o. refl })
       (confined-transaction h e (c .0 .good2) r (hidden-around-near (inside qs (assigned x) (mutated x)) (c .0) v))

@@ -3,7 +3,7 @@ use Prim.Native.Nat.{ℕ, zero, suc, _<_, _≤_}
 use native.Mathlib.Omega.{arith}
 use mathlib.Core.Path.{_≡_, refl}
 use mathlib.Core.Logic.{⊎-elim}
-use mathlib.Core.List.{List, [], _∷_, _++_, List·Memᴰ, List·Memᴰ·head, List·Memᴰ·tail, List·Memᴰ·not-nil}
+use mathlib.Core.List.{List, [], _∷_, List·Memᴰ, List·Memᴰ·head, List·Memᴰ·tail, List·Memᴰ·not-nil}
 use mathlib.Core.Bool.{Bool, true, false}
 use lib.Dec.{eqb}
 use lib.Bits.{bitOr}
@@ -11,11 +11,11 @@ use borrow.Author.Tests.{eqb-true}
 use Rattle.model.specs.Number.{accepted, Verdict, fine, refused, require, orElse}
 use Rattle.model.specs.Sets.{has}
 use Rattle.model.specs.Policy.{principals, roles, Side, reading, trust, Accepted, SameFixed, policyNumber}
-use Rattle.model.specs.Mutation.{Kind, addMember, deleteMember, addTaken, deleteTaken, operandBelow, allowed, Mutation}
+use Rattle.model.specs.Mutation.{Kind, addMember, deleteMember, addTaken, deleteTaken, operandBelow, Mutation}
 use Rattle.model.specs.Syntax.{of, Atom, fixed, Query, Expr, Stmt, skip, assign, empty, block, if, while, query, update, transaction}
 use Rattle.model.specs.Program.{Read, got, bad, variableLimit, variables, readProgram}
 use Rattle.model.specs.Order.{joinAtMost}
-use Rattle.model.specs.Flow.{label, exprLabel, queryLabel, listLabel, assigned, rolesOf, mutated, Around, outside, inside, eachIn, listedIn, allAllowed, bothSides, mayAssign, mayUpdate, flow, bodyVerdict, programVerdict}
+use Rattle.model.specs.Flow.{label, exprLabel, assigned, rolesOf, mutated, Around, outside, inside, eachIn, listedIn, mayMutate, allAllowed, bothSides, thenKnown, elseKnown, underExpr, underQuery, assignJoin, updateJoin, mayAssign, mayUpdate, flow, bodyVerdict, programVerdict}
 use Rattle.model.proofs.Accepted.{accepted-facts}
 use Rattle.model.proofs.Below.{last-or}
 use Rattle.model.proofs.Fits.{Each, each-cons, QueryFits, operandLimit, MutationFits, Fits, listed-member}
@@ -52,21 +52,20 @@ each-in set test (suc n) h x l m =
 abbrev pub Subset : ℕ → ℕ → Type 0
 Subset a b = (i : ℕ) → has a i ≡ true → has b i ≡ true
 
--- a transaction around a statement: its listed queries fit, what is known is listed, and its sets have all that the statement assigns and mutates
-pub record Inside (R : ℕ) (listed : List Query) (xs rs : ℕ) (known : List Query) (x : Stmt) : Type 0 where
+-- a transaction around a statement: its listed queries fit, and its sets have all that the statement assigns and mutates
+pub record Inside (R : ℕ) (listed : List Query) (xs rs : ℕ) (x : Stmt) : Type 0 where
   pub listed-fit : Each (QueryFits R) listed
-  pub known-listed : Each (λ q. List·Memᴰ q listed) known
   pub assigned-in : Subset (assigned x) xs
   pub mutated-in : Subset (mutated x) rs
 
-abbrev pub Surrounded : ℕ → Around → List Query → Stmt → Type 0
-Surrounded R outside known x = Unit {0}
-Surrounded R (inside listed xs rs) known x = Inside R listed xs rs known x
+abbrev pub Surrounded : ℕ → Around → Stmt → Type 0
+Surrounded R outside x = Unit {0}
+Surrounded R (inside listed xs rs) x = Inside R listed xs rs x
 
 -- a statement that is accepted where it stands
 pub record Placed (s p : List ℕ) (around : Around) (known : List Query) (context : Side → List Atom) (x : Stmt) : Type 0 where
   pub fits : Fits (principals s) (roles s) (variables p) x
-  pub surrounded : Surrounded (roles s) around known x
+  pub surrounded : Surrounded (roles s) around x
   pub flows : flow s p around known context x ≡ fine
 
 -- the fixed part decides where a statement may stand
@@ -78,43 +77,31 @@ placed-fixed {a} {b} {p} {around} {known} {context} {x} oka okb same h = record 
   flows = rw (flow-fixed a b oka okb same p around known context x) at (h .flows);
 }
 
--- the context once an expression's label, or a query's, is joined to it
-abbrev pub underExpr : List ℕ → Expr → (Side → List Atom) → Side → List Atom
-underExpr p e context side = exprLabel p side e ++ context side
-
-abbrev pub underQuery : Query → (Side → List Atom) → Side → List Atom
-underQuery q context side = queryLabel side q ++ context side
-
 -- the surrounding transaction, if any, has the variable in its set
 abbrev pub Writes : Around → ℕ → Type 0
 Writes outside x = Unit {0}
 Writes (inside listed xs rs) x = has xs x ≡ true
 
--- the surroundings of a part: it assigns and mutates no more, and one more listed query may be known there
-part-surrounded : (R : ℕ) (around : Around) (known : List Query) (z a : Stmt) → Subset (assigned a) (assigned z) → Subset (mutated a) (mutated z)
-    → Surrounded R around known z → Surrounded R around known a
-part-surrounded R outside known z a f g h = tt
-part-surrounded R (inside listed xs rs) known z a f g h = record {
+-- the surroundings of a part: it assigns and mutates no more
+part-surrounded : (R : ℕ) (around : Around) (z a : Stmt) → Subset (assigned a) (assigned z) → Subset (mutated a) (mutated z)
+    → Surrounded R around z → Surrounded R around a
+part-surrounded R outside z a f g h = tt
+part-surrounded R (inside listed xs rs) z a f g h = record {
   listed-fit = h .listed-fit;
-  known-listed = h .known-listed;
   assigned-in = λ i k. h .assigned-in i (f i k);
   mutated-in = λ i k. h .mutated-in i (g i k);
 }
 
-knows : {R : ℕ} {listed : List Query} {xs rs : ℕ} {known : List Query} {q : Query} {x : Stmt}
-    → List·Memᴰ q listed → Inside R listed xs rs known x → Inside R listed xs rs (q ∷ known) x
-knows m h = record { listed-fit = h .listed-fit; known-listed = each-cons m (h .known-listed); assigned-in = h .assigned-in; mutated-in = h .mutated-in }
-
-assign-writes : (R : ℕ) (around : Around) (known : List Query) (at x : ℕ) (e : Expr) → Surrounded R around known (assign at x e) → Writes around x
+assign-writes : (R : ℕ) (around : Around) (at x : ℕ) (e : Expr) → Surrounded R around (assign at x e) → Writes around x
 unfolding assigned
-assign-writes R outside known at x e h = tt
-assign-writes R (inside listed xs rs) known at x e h = h .assigned-in x (has-with-same 0 x)
+assign-writes R outside at x e h = tt
+assign-writes R (inside listed xs rs) at x e h = h .assigned-in x (has-with-same 0 x)
 
 -- a mutation of the policy s: what it needs to keep s accepted, and that its role is in the transaction's set
 pub record Mutates (s : List ℕ) (rs : ℕ) (m : Mutation) : Type 0 where
   pub role-below : m .role < roles s
   pub operand-below : m .operand < operandBelow s (m .kind)
-  pub is-allowed : allowed s (m .kind) (m .role) (m .operand) ≡ true
+  pub is-allowed : mayMutate s m ≡ true
   pub named : has rs (m .role) ≡ true
 
 operand-limit : (s : List ℕ) (k : Kind) → operandLimit (principals s) (roles s) k ≡ operandBelow s k
@@ -128,7 +115,7 @@ mutates : (s : List ℕ) (rs : ℕ) (ms : List Mutation) → Each (MutationFits 
 unfolding rolesOf allAllowed
 mutates s rs [] f g h = λ m i. absurd (List·Memᴰ·not-nil i)
 mutates s rs (k ∷ ms) f g h =
-    let (a, later) = both (allowed s (k .kind) (k .role) (k .operand)) (allAllowed s ms) h in
+    let (a, later) = both (mayMutate s k) (allAllowed s ms) h in
     let (r, o) = f k (List·Memᴰ·head refl) in
     let this : Mutates s rs k = record {
       role-below = r;
@@ -141,14 +128,14 @@ mutates s rs (k ∷ ms) f g h =
 module _ (s p : List ℕ) where
   -- an assignment on a side: context and expression label are at most the variable's label
   pub record AssignsOn (known : List Query) (context : Side → List Atom) (x : ℕ) (e : Expr) (side : Side) : Type 0 where
-    pub context-below : JoinAtMost s known (context side) (label p side x)
+    pub context-below : JoinAtMost s known (assignJoin context side) (label p side x)
     pub value-below : JoinAtMost s known (exprLabel p side e) (label p side x)
 
   -- an update on a side: context and listed queries' labels are at most the label of every variable that the transaction assigns, and at most the
   -- watchers of every role that it mutates
   pub record UpdatesOn (known : List Query) (context : Side → List Atom) (listed : List Query) (xs rs : ℕ) (side : Side) : Type 0 where
-    pub variables-above : (x : ℕ) → x < 64 → has xs x ≡ true → JoinAtMost s known (context side ++ listLabel side listed) (label p side x)
-    pub roles-above : (r : ℕ) → r < 64 → has rs r ≡ true → JoinAtMost s known (context side ++ listLabel side listed) (fixed (of side r))
+    pub variables-above : (x : ℕ) → x < 64 → has xs x ≡ true → JoinAtMost s known (updateJoin context listed side) (label p side x)
+    pub roles-above : (r : ℕ) → r < 64 → has rs r ≡ true → JoinAtMost s known (updateJoin context listed side) (fixed (of side r))
 
   -- what acceptance gives, by the statement's rule
   abbrev pub Parts : Around → List Query → (Side → List Atom) → Stmt → Type 0
@@ -161,8 +148,8 @@ module _ (s p : List ℕ) where
   Parts outside known context (query at q a b) = ⊥
   Parts (inside listed xs rs) known context (query at q a b) =
       List·Memᴰ q listed
-      × Placed s p (inside listed xs rs) (q ∷ known) (underQuery q context) a
-      × Placed s p (inside listed xs rs) known (underQuery q context) b
+      × Placed s p (inside listed xs rs) (thenKnown q known) (underQuery q context) a
+      × Placed s p (inside listed xs rs) (elseKnown q known) (underQuery q context) b
   Parts outside known context (update at ms) = ⊥
   Parts (inside listed xs rs) known context (update at ms) = Each (Mutates s rs) ms × ((side : Side) → UpdatesOn known context listed xs rs side)
   Parts outside known context (transaction at start end qs a) = Placed s p (inside qs (assigned a) (mutated a)) [] context a
@@ -172,14 +159,14 @@ module _ (s p : List ℕ) where
       → AssignsOn known context x e side
   unfolding mayAssign
   may-assign known context x e side h =
-      let (c, v) = both (joinAtMost s known (context side) (label p side x)) (joinAtMost s known (exprLabel p side e) (label p side x)) h in
-      record { context-below = join-derivable s known (context side) (label p side x) c; value-below = join-derivable s known (exprLabel p side e) (label p side x) v }
+      let (c, v) = both (joinAtMost s known (assignJoin context side) (label p side x)) (joinAtMost s known (exprLabel p side e) (label p side x)) h in
+      record { context-below = join-derivable s known (assignJoin context side) (label p side x) c; value-below = join-derivable s known (exprLabel p side e) (label p side x) v }
 
   may-update : (known : List Query) (context : Side → List Atom) (listed : List Query) (xs rs : ℕ) (side : Side) → mayUpdate s p known context listed xs rs side ≡ true
       → UpdatesOn known context listed xs rs side
   unfolding mayUpdate
   may-update known context listed xs rs side h =
-      let join = context side ++ listLabel side listed in
+      let join = updateJoin context listed side in
       let (v, m) = both (eachIn xs (λ x. joinAtMost s known join (label p side x)) 64) (eachIn rs (λ r. joinAtMost s known join (fixed (of side r))) 64) h in
       record {
         variables-above = λ x l i. join-derivable s known join (label p side x) (each-in xs _ 64 v x l i);
@@ -190,34 +177,34 @@ module _ (s p : List ℕ) where
   two-parts : (around : Around) (k l : List Query) (context : Side → List Atom) (z a b : Stmt)
       → assigned z ≡ bitOr (assigned a) (assigned b) → mutated z ≡ bitOr (mutated a) (mutated b)
       → Fits (principals s) (roles s) (variables p) a → Fits (principals s) (roles s) (variables p) b
-      → Surrounded (roles s) around k z → Surrounded (roles s) around l z → orElse (flow s p around k context a) (flow s p around l context b) ≡ fine
+      → Surrounded (roles s) around z → orElse (flow s p around k context a) (flow s p around l context b) ≡ fine
       → Placed s p around k context a × Placed s p around l context b
-  two-parts around k l context z a b e m f g i j h =
+  two-parts around k l context z a b e m f g i h =
       let (v, w) = or-else-fine (flow s p around k context a) (flow s p around l context b) h in
-      let left = part-surrounded (roles s) around k z a (rw e (has-or-l (assigned a) (assigned b))) (rw m (has-or-l (mutated a) (mutated b))) i in
-      let right = part-surrounded (roles s) around l z b (rw e (has-or-r (assigned a) (assigned b))) (rw m (has-or-r (mutated a) (mutated b))) j in
+      let left = part-surrounded (roles s) around z a (rw e (has-or-l (assigned a) (assigned b))) (rw m (has-or-l (mutated a) (mutated b))) i in
+      let right = part-surrounded (roles s) around z b (rw e (has-or-r (assigned a) (assigned b))) (rw m (has-or-r (mutated a) (mutated b))) i in
       (record { fits = f; surrounded = left; flows = v }, record { fits = g; surrounded = right; flows = w })
 
   pub parts : {around : Around} {known : List Query} {context : Side → List Atom} {x : Stmt} → Accepted s → Placed s p around known context x → Parts around known context x
   unfolding flow assigned mutated
   parts {x = skip} good h = tt
   parts {around} {known} {context} {x = assign at x e} good h =
-      (assign-writes (roles s) around known at x e (h .surrounded), λ side. may-assign known context x e side (sides-fine (mayAssign s p known context x e) at (h .flows) side))
+      (assign-writes (roles s) around at x e (h .surrounded), λ side. may-assign known context x e side (sides-fine (mayAssign s p known context x e) at (h .flows) side))
   parts {x = empty} good h = tt
   parts {around} {known} {context} {x = block a b} good h =
-      two-parts around known known context (block a b) a b refl refl (h .fits .0) (h .fits .1) (h .surrounded) (h .surrounded) (h .flows)
+      two-parts around known known context (block a b) a b refl refl (h .fits .0) (h .fits .1) (h .surrounded) (h .flows)
   parts {around} {known} {context} {x = if e a b} good h =
-      two-parts around known known (underExpr p e context) (if e a b) a b refl refl (h .fits .1) (h .fits .2) (h .surrounded) (h .surrounded) (h .flows)
+      two-parts around known known (underExpr p e context) (if e a b) a b refl refl (h .fits .1) (h .fits .2) (h .surrounded) (h .flows)
   parts {around} {known} {context} {x = while e a} good h = record {
     fits = h .fits .1;
-    surrounded = part-surrounded (roles s) around known (while e a) a (λ i k. k) (λ i k. k) (h .surrounded);
+    surrounded = part-surrounded (roles s) around (while e a) a (λ i k. k) (λ i k. k) (h .surrounded);
     flows = h .flows;
   }
   parts {around = outside} {x = query at q a b} good h = refused-not-fine _ at (h .flows)
   parts {around = inside listed xs rs} {known} {context} {x = query at q a b} good h =
       let (l, v) = require-fine (listedIn q listed) _ at _ (h .flows) in
       let m = listed-member (roles s) (accepted-facts s good .roles-fit) q listed (h .fits .0) (h .surrounded .listed-fit) l in
-      let (x, y) = two-parts (inside listed xs rs) (q ∷ known) known (underQuery q context) (query at q a b) a b refl refl (h .fits .1) (h .fits .2) (knows m (h .surrounded)) (h .surrounded) v in
+      let (x, y) = two-parts (inside listed xs rs) (thenKnown q known) (elseKnown q known) (underQuery q context) (query at q a b) a b refl refl (h .fits .1) (h .fits .2) (h .surrounded) v in
       (m, x, y)
   parts {around = outside} {x = update at ms} good h = refused-not-fine _ at (h .flows)
   parts {around = inside listed xs rs} {known} {context} {x = update at ms} good h =
@@ -225,7 +212,7 @@ module _ (s p : List ℕ) where
       (mutates s rs ms (h .fits) (h .surrounded .mutated-in) a, λ side. may-update known context listed xs rs side (sides-fine (mayUpdate s p known context listed xs rs) at v side))
   parts {around = outside} {x = transaction at start end qs a} good h = record {
     fits = h .fits .1;
-    surrounded = record { listed-fit = h .fits .0; known-listed = λ q m. absurd (List·Memᴰ·not-nil m); assigned-in = λ i k. k; mutated-in = λ i k. k };
+    surrounded = record { listed-fit = h .fits .0; assigned-in = λ i k. k; mutated-in = λ i k. k };
     flows = h .flows;
   }
   parts {around = inside listed xs rs} {x = transaction at start end qs a} good h = refused-not-fine _ at (h .flows)

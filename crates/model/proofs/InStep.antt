@@ -2,25 +2,24 @@
 use Prim.Native.Nat.{ℕ}
 use mathlib.Core.Path.{_≡_, sym, ap, _∙_}
 use mathlib.Core.Logic.{_⊎_, inl, inr, ⊎-elim}
-use mathlib.Core.List.{List, [], _++_}
+use mathlib.Core.List.{List, [], Memᴰ·append-left, Memᴰ·append-right}
 use mathlib.Core.Bool.{Bool, true, false}
 use Rattle.model.specs.Policy.{Side}
 use Rattle.model.specs.Mutation.{Mutation}
 use Rattle.model.specs.Syntax.{Atom, Query, Expr, Stmt, assign, while, transaction}
 use Rattle.model.specs.Program.{variables}
-use Rattle.model.specs.Flow.{exprLabel, queryLabel, listLabel, assigned, mutated, Around, outside, inside}
+use Rattle.model.specs.Flow.{exprLabel, queryLabel, listLabel, underExpr, underQuery, assigned, mutated, Around, outside, inside}
 use Rattle.model.specs.Atoms.{holds}
 use Rattle.model.specs.Value.{evaluate, truth, setValue}
 use Rattle.model.specs.Run.{Update, mutateAll, broken}
 use Rattle.model.specs.Claim.{NoGain}
-use Rattle.model.proofs.Along.{listedOf, Stands, rule, Known, all-hold, no-gain-first, no-gain-later, alike-shown, known-stays, update-shows, hidden-along, rows-stay}
+use Rattle.model.proofs.Along.{listedOf, Stands, rule, ListedHold, Known, all-hold, no-gain-first, no-gain-later, alike-shown, known-stays, update-shows, hidden-along, rows-stay}
 use Rattle.model.proofs.Confined.{AllHidden, HiddenAround, hidden-around-near, by-context, Calm, nothing-known, update-hidden, confined, confined-loop, confined-transaction}
 use Rattle.model.proofs.Fits.{Each, each-cons, ExprFits}
 use Rattle.model.proofs.FlowParts.{Mutates, UpdatesOn}
-use Rattle.model.proofs.Openness.{Setting, Good, Near, near-sym, Hidden, hidden-or-open, hidden-near, hidden-left, hidden-right, hides, query-same, broken-same}
+use Rattle.model.proofs.Openness.{Setting, Good, Near, near-sym, Hidden, hidden-or-open, hidden-near, hidden-in, hides, query-same, broken-same}
 use Rattle.model.proofs.Runs.{End, ends, rolls, Runs, run-skip, run-assign, run-empty, run-block, run-block-rolls, run-then, run-else, run-stop, run-more, run-more-rolls, run-holds, run-fails, run-update, run-update-rolls, run-transaction, run-again}
 use Rattle.model.proofs.Sees.{clash}
-use Rattle.model.proofs.Semantics.{AllHold}
 use Rattle.model.proofs.States.{Alike, alike-sym, alike-trans, evaluate-same, assign-same}
 use Rattle.model.proofs.Updates.{update-near}
 
@@ -61,26 +60,26 @@ module _ (S : Setting) where
       calm-two around a b k (confined-loop S h d (k .near .good1) (k .room1) w (by-context y)) (confined-loop S h e (k .near .good2) (k .room2) v (by-context (hidden-near (k .near) y)))
 
   -- where two tests of an expression differ its label is hidden
-  guard-hidden : {s m t n : List ℕ} (e : Expr) (join : List Atom) → ExprFits (variables (S .program)) e → Alike S s m t n
-      → (truth (evaluate m e) ≡ truth (evaluate n e) → ⊥) → Hidden S s (exprLabel (S .program) (S .side) e ++ join)
-  guard-hidden {s} e join f k d = ⊎-elim
-      (λ h. hidden-left join h)
+  guard-hidden : {s m t n : List ℕ} (e : Expr) (context : Side → List Atom) → ExprFits (variables (S .program)) e → Alike S s m t n
+      → (truth (evaluate m e) ≡ truth (evaluate n e) → ⊥) → Hidden S s (underExpr (S .program) e context (S .side))
+  guard-hidden {s} e context f k d = ⊎-elim
+      (λ h. hidden-in (λ a i. search Memᴰ·append-left) h)
       (λ o. absurd (d (ap truth (evaluate-same k e f o))))
       (hidden-or-open S s (exprLabel (S .program) (S .side) e))
 
   -- where two answers to a query differ its label is hidden
-  query-hidden : {s m t n : List ℕ} (q : Query) (join : List Atom) → Alike S s m t n → (holds s q ≡ holds t q → ⊥) → Hidden S s (queryLabel (S .side) q ++ join)
-  query-hidden {s} q join k d = ⊎-elim
-      (λ h. hidden-left join h)
+  query-hidden : {s m t n : List ℕ} (q : Query) (context : Side → List Atom) → Alike S s m t n → (holds s q ≡ holds t q → ⊥) → Hidden S s (underQuery q context (S .side))
+  query-hidden {s} q context k d = ⊎-elim
+      (λ h. hidden-in (λ a i. search Memᴰ·append-left) h)
       (λ o. absurd (d (query-same (k .near .good1) (k .near) q o)))
       (hidden-or-open S s (queryLabel (S .side) q))
 
   -- an update in a transaction that is not hidden rolls back in both runs or in neither
   on-update : {listed known : List Query} {xs rs : ℕ} {context : Side → List Atom} {s m t n : List ℕ} {A : Type 0} (ms : List Mutation)
-      → Each (Mutates (S .base) rs) ms × ((side : Side) → UpdatesOn (S .base) (S .program) known context listed xs rs side) → AllHold s known → Alike S s m t n
+      → Each (Mutates (S .base) rs) ms × ((side : Side) → UpdatesOn (S .base) (S .program) known context listed xs rs side) → ListedHold listed known s → Alike S s m t n
       → (broken listed s (mutateAll s ms) ≡ broken listed t (mutateAll t ms) → A) → AllHidden S xs rs s ⊎ A
   on-update {listed} {context} {s} ms h w k f = ⊎-elim
-      (λ y. inl (update-hidden S (h .1) (k .near .good1) w (hidden-right (context (S .side)) y)))
+      (λ y. inl (update-hidden S (h .1) (k .near .good1) w (hidden-in (λ a i. search Memᴰ·append-right) y)))
       (λ o. inr (f (broken-same listed (k .near .good1) (k .near) (update-near ms (h .0) (k .near)) o)))
       (hidden-or-open S s (listLabel (S .side) listed))
 
@@ -124,19 +123,19 @@ module _ (S : Setting) where
   in-step h (run-block-rolls d) (run-block-rolls d′) w v k g = in-step (rule S h .0) d d′ w v k g
   in-step h (run-then c d) (run-then c′ d′) w v k g = in-step (rule S h .0) d d′ w v k g
   in-step {context} h (run-then {e = e} c d) (run-else c′ d′) w v k g =
-      unseen-two (rule S h .0) d w (rule S h .1) d′ v k (guard-hidden e (context (S .side)) (h .fits .0) k (differ c c′))
+      unseen-two (rule S h .0) d w (rule S h .1) d′ v k (guard-hidden e context (h .fits .0) k (differ c c′))
   in-step {context} h (run-else {e = e} c d) (run-then c′ d′) w v k g =
-      unseen-two (rule S h .1) d w (rule S h .0) d′ v k (guard-hidden e (context (S .side)) (h .fits .0) k (λ z. differ c′ c (sym z)))
+      unseen-two (rule S h .1) d w (rule S h .0) d′ v k (guard-hidden e context (h .fits .0) k (λ z. differ c′ c (sym z)))
   in-step h (run-else c d) (run-else c′ d′) w v k g = in-step (rule S h .1) d d′ w v k g
   in-step h (run-stop c) (run-stop c′) w v k g = inr k
   in-step {context} h (run-stop {e = e} c) (run-more c′ d′ e′) w v k g =
-      unseen-loops (rule S h) (run-stop c) (run-more c′ d′ e′) w v k (guard-hidden e (context (S .side)) (h .fits .0) k (λ z. differ c′ c (sym z)))
+      unseen-loops (rule S h) (run-stop c) (run-more c′ d′ e′) w v k (guard-hidden e context (h .fits .0) k (λ z. differ c′ c (sym z)))
   in-step {context} h (run-stop {e = e} c) (run-more-rolls c′ d′) w v k g =
-      unseen-loops (rule S h) (run-stop c) (run-more-rolls c′ d′) w v k (guard-hidden e (context (S .side)) (h .fits .0) k (λ z. differ c′ c (sym z)))
+      unseen-loops (rule S h) (run-stop c) (run-more-rolls c′ d′) w v k (guard-hidden e context (h .fits .0) k (λ z. differ c′ c (sym z)))
   in-step {context} h (run-more {e = e} c d i) (run-stop c′) w v k g =
-      unseen-loops (rule S h) (run-more c d i) (run-stop c′) w v k (guard-hidden e (context (S .side)) (h .fits .0) k (differ c c′))
+      unseen-loops (rule S h) (run-more c d i) (run-stop c′) w v k (guard-hidden e context (h .fits .0) k (differ c c′))
   in-step {context} h (run-more-rolls {e = e} c d) (run-stop c′) w v k g =
-      unseen-loops (rule S h) (run-more-rolls c d) (run-stop c′) w v k (guard-hidden e (context (S .side)) (h .fits .0) k (differ c c′))
+      unseen-loops (rule S h) (run-more-rolls c d) (run-stop c′) w v k (guard-hidden e context (h .fits .0) k (differ c c′))
   in-step h (run-more {us = us} {vs = vs} c d e) (run-more c′ d′ e′) w v k g = ⊎-elim inl
       (λ k₁. ⊎-elim (λ y. inl (hidden-before (rule S h) d (k .near .good1) y)) inr
       (in-step h e e′ (known-stays S (rule S h) d w) (known-stays S (rule S h) d′ v) k₁ (no-gain-later us g)))
@@ -146,11 +145,11 @@ module _ (S : Setting) where
   in-step h (run-more-rolls c d) (run-more-rolls c′ d′) w v k g = in-step (rule S h) d d′ w v k g
   in-step {around = outside} h (run-holds c d) d′ w v k g = absurd (rule S h)
   in-step {around = outside} h (run-fails c d) d′ w v k g = absurd (rule S h)
-  in-step {around = inside _ _ _} h (run-holds c d) (run-holds c′ d′) w v k g = in-step (rule S h .1) d d′ (each-cons c w) (each-cons c′ v) k g
+  in-step {around = inside _ _ _} h (run-holds c d) (run-holds c′ d′) w v k g = in-step (rule S h .1) d d′ (each-cons (rule S h .0, c) w) (each-cons (rule S h .0, c′) v) k g
   in-step {around = inside _ _ _} {context} h (run-holds {q = q} c d) (run-fails c′ d′) w v k g =
-      unseen-two (rule S h .1) d (each-cons c w) (rule S h .2) d′ v k (query-hidden q (context (S .side)) k (differ c c′))
+      unseen-two (rule S h .1) d (each-cons (rule S h .0, c) w) (rule S h .2) d′ v k (query-hidden q context k (differ c c′))
   in-step {around = inside _ _ _} {context} h (run-fails {q = q} c d) (run-holds c′ d′) w v k g =
-      unseen-two (rule S h .2) d w (rule S h .1) d′ (each-cons c′ v) k (query-hidden q (context (S .side)) k (λ z. differ c′ c (sym z)))
+      unseen-two (rule S h .2) d w (rule S h .1) d′ (each-cons (rule S h .0, c′) v) k (query-hidden q context k (λ z. differ c′ c (sym z)))
   in-step {around = inside _ _ _} h (run-fails c d) (run-fails c′ d′) w v k g = in-step (rule S h .2) d d′ w v k g
   in-step {around = outside} h (run-update c) d′ w v k g = absurd (rule S h)
   in-step {around = outside} h (run-update-rolls c) d′ w v k g = absurd (rule S h)
@@ -163,16 +162,16 @@ module _ (S : Setting) where
   in-step {around = outside} {s} {t} h (run-transaction {at = at} {start = start} {end = end} d) (run-transaction d′) w v k g = ⊎-elim
       (λ y. inr (hidden-transactions {at = at} {start = start} {end = end} (rule S h) (run-transaction d) (run-transaction d′) k y))
       inr
-      (in-step (rule S h) d d′ (nothing-known s) (nothing-known t) k g)
+      (in-step (rule S h) d d′ (nothing-known _ s) (nothing-known _ t) k g)
   in-step {around = outside} {s} {t} h (run-transaction d) (run-again d′ e′) w v k g = ⊎-elim
       (λ y. inr (hidden-transactions (rule S h) (run-transaction d) (run-again d′ e′) k y))
       absurd
-      (in-step (rule S h) d d′ (nothing-known s) (nothing-known t) k g)
+      (in-step (rule S h) d d′ (nothing-known _ s) (nothing-known _ t) k g)
   in-step {around = outside} {s} {t} h (run-again {us = us} {vs = vs} d e) (run-transaction d′) w v k g = ⊎-elim
       (λ y. inr (hidden-transactions (rule S h) (run-again d e) (run-transaction d′) k y))
       absurd
-      (in-step (rule S h) d d′ (nothing-known s) (nothing-known t) k (no-gain-first us vs g))
+      (in-step (rule S h) d d′ (nothing-known _ s) (nothing-known _ t) k (no-gain-first us vs g))
   in-step {around = outside} {s} {t} h (run-again {us = us} {vs = vs} d e) (run-again d′ e′) w v k g = ⊎-elim
       (λ y. inr (hidden-transactions (rule S h) (run-again d e) (run-again d′ e′) k y))
       (λ near. in-step h e e′ w v (alike-shown k (hidden-along S (rule S h) d (k .near .good1) (no-gain-first us vs g)) near) (no-gain-later us g))
-      (in-step (rule S h) d d′ (nothing-known s) (nothing-known t) k (no-gain-first us vs g))
+      (in-step (rule S h) d d′ (nothing-known _ s) (nothing-known _ t) k (no-gain-first us vs g))

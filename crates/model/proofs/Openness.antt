@@ -4,7 +4,7 @@ use native.Mathlib.Omega.{arith}
 use native.Mathlib.Decide.{decLt}
 use mathlib.Core.Path.{_≡_, refl, sym, _∙_}
 use mathlib.Core.Logic.{_⊎_, inl, inr, ⊎-elim}
-use mathlib.Core.List.{List, [], _∷_, _++_, List·Memᴰ, List·Memᴰ·head, List·Memᴰ·tail, List·Memᴰ·not-nil, List·Memᴰ·cases-cons, Memᴰ·append-left, Memᴰ·append-right}
+use mathlib.Core.List.{List, [], _∷_, List·Memᴰ, List·Memᴰ·head, List·Memᴰ·tail, List·Memᴰ·not-nil, List·Memᴰ·cases-cons, Memᴰ·append-left, Memᴰ·append-right}
 use mathlib.Core.Bool.{Bool, true, false, not, _&&_, _||_}
 use Rattle.model.specs.Policy.{Side, roles, watchers, Accepted, SameFixed, Agree}
 use Rattle.model.specs.Meaning.{meaning}
@@ -16,6 +16,7 @@ use Rattle.model.specs.Atoms.{atomSet, holds}
 use Rattle.model.specs.Run.{Update, broken}
 use Rattle.model.specs.Claim.{sees, Gains}
 use Rattle.model.proofs.Truth.{backwards}
+use Rattle.model.proofs.Fits.{Each}
 use Rattle.model.proofs.Fixed.{fixed-refl, fixed-sym, fixed-trans, agree-refl, agree-sym, agree-trans}
 use Rattle.model.proofs.Least.{meaning-beyond}
 use Rattle.model.proofs.Meaning.{meaning-watched, meaning-seen}
@@ -136,11 +137,9 @@ hidden-or-open S s (x ∷ join) = ⊎-elim
 pub hidden-near : {S : Setting} {a b : List ℕ} {join : List Atom} → Near S a b → Hidden S a join → Hidden S b join
 hidden-near n h = record { atom = h .atom; among = h .among; is-hidden = sym (open-same n (h .atom)) ∙ h .is-hidden }
 
-pub hidden-left : {S : Setting} {s : List ℕ} {j : List Atom} (k : List Atom) → Hidden S s j → Hidden S s (j ++ k)
-hidden-left k h = record { atom = h .atom; among = Memᴰ·append-left k (h .among); is-hidden = h .is-hidden }
-
-pub hidden-right : {S : Setting} {s : List ℕ} (j : List Atom) {k : List Atom} → Hidden S s k → Hidden S s (j ++ k)
-hidden-right j h = record { atom = h .atom; among = Memᴰ·append-right j (h .among); is-hidden = h .is-hidden }
+-- a join with all atoms of a hidden one is hidden
+pub hidden-in : {S : Setting} {s : List ℕ} {j k : List Atom} → Each (λ a. List·Memᴰ a k) j → Hidden S s j → Hidden S s k
+hidden-in f h = record { atom = h .atom; among = f (h .atom) (h .among); is-hidden = h .is-hidden }
 
 -- the order is by the fixed part
 at-most-fixed : {S : Setting} {s : List ℕ} {known : List Query} {a b : Atom} → Good S s → AtMost (S .base) known a b → AtMost s known a b
@@ -166,14 +165,14 @@ atom-same g n (fixed f) o = sym (set-fixed (n .good1) f) ∙ set-fixed (n .good2
 pub query-same : {S : Setting} {s a b : List ℕ} → Good S s → Near S a b → (q : Query) → Open S s (queryLabel (S .side) q) → holds a q ≡ holds b q
 unfolding queryLabel
 query-same {S} {s} {a} {b} g n q o = holds-same a b q
-    (atom-same g n (q .first) (λ x i. o x (Memᴰ·append-left _ i)))
-    (atom-same g n (q .second) (λ x i. o x (Memᴰ·append-right (atomLabel (S .side) (q .first)) i)))
+    (atom-same g n (q .first) (λ x i. o x (search Memᴰ·append-left)))
+    (atom-same g n (q .second) (λ x i. o x (search Memᴰ·append-right)))
 
 -- so two updates break alike a listed query, where the list's label is open
 pub broken-same : {S : Setting} {s a b c d : List ℕ} (listed : List Query) → Good S s → Near S a b → Near S c d → Open S s (listLabel (S .side) listed) → broken listed a c ≡ broken listed b d
 unfolding broken listLabel
 broken-same [] g n k o = refl
-broken-same {S} (q ∷ qs) g n k o = rw (
+broken-same {S} (q ∷ qs) g n k o = cc (
   query-same g n q (λ x i. o x (Memᴰ·append-left _ i)),
   query-same g k q (λ x i. o x (Memᴰ·append-left _ i)),
   broken-same qs g n k (λ x i. o x (Memᴰ·append-right (queryLabel (S .side) q) i)),

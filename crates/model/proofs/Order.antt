@@ -7,6 +7,7 @@ use mathlib.Core.List.{List, [], _∷_, _++_, List·Memᴰ, List·Memᴰ·head, 
 use mathlib.Core.Bool.{true, false, _&&_, false≢true, and-assoc}
 use lib.Bits.{and-mask}
 use borrow.Author.Tests.{eq-eqb, eqb-true}
+use Rattle.model.specs.Sets.{within}
 use Rattle.model.specs.Policy.{principals, Side, reading, trust, watchers, Accepted}
 use Rattle.model.specs.Syntax.{Fixed, of, everyone, Atom, role, fixed, Query}
 use Rattle.model.specs.Order.{fixedSet, includes, AtMost, same, chain, asked, own, lies, base, atMost, joinAtMost}
@@ -26,6 +27,9 @@ known-same f (lies h) = lies h
 abbrev pub JoinAtMost : List ℕ → List Query → List Atom → Atom → Type 0
 JoinAtMost s known join b = (a : Atom) → List·Memᴰ a join → AtMost s known a b
 
+within-trans : (a b c : ℕ) → within a b ≡ true → within b c ≡ true → within a c ≡ true
+within-trans a b c p q = has-within a c (λ i m. within-has b c i q (within-has a b i p m))
+
 module _ (s : List ℕ) where
   includes-refl : (f : Fixed) → includes s f f ≡ true
   unfolding includes
@@ -33,8 +37,7 @@ module _ (s : List ℕ) where
 
   includes-trans : (f g h : Fixed) → includes s f g ≡ true → includes s g h ≡ true → includes s f h ≡ true
   unfolding includes
-  includes-trans f g h p q =
-      has-within (fixedSet s h) (fixedSet s f) (λ i m. within-has (fixedSet s g) (fixedSet s f) i p (within-has (fixedSet s h) (fixedSet s g) i q m))
+  includes-trans f g h p q = search within-trans
 
   -- a fixed atom is at most a role when it is at most the role's viewers or its trusters
   role-side : (f : Fixed) (j : ℕ) → base s (fixed f) (role j) ≡ true → (side : Side) × (includes s f (of side j) ≡ true)
@@ -45,6 +48,13 @@ module _ (s : List ℕ) where
   unfolding base
   side-role f j reading h = or-left (includes s f (of reading j)) (includes s f (of trust j)) h
   side-role f j trust h = or-right (includes s f (of reading j)) (includes s f (of trust j)) h
+
+  base-derivable : (a b : Atom) → base s a b ≡ true → AtMost s [] a b
+  unfolding base
+  base-derivable (role i) (role j) h = rw (eqb-true i j h) same
+  base-derivable (role i) (fixed g) h = absurd (false≢true h)
+  base-derivable (fixed f) (role j) h = let (side, q) = role-side f j h in chain (lies q) own
+  base-derivable (fixed f) (fixed g) h = lies h
 
   base-refl : (a : Atom) → base s a a ≡ true
   unfolding base
@@ -59,13 +69,6 @@ module _ (s : List ℕ) where
   base-trans (fixed f) (role j) (fixed g) h k = absurd (false≢true k)
   base-trans (fixed f) (fixed g) (role l) h k = let (side, q) = role-side g l k in side-role f l side (includes-trans f g (of side l) h q)
   base-trans (fixed f) (fixed g) (fixed e) h k = includes-trans f g e h k
-
-  base-derivable : (a b : Atom) → base s a b ≡ true → AtMost s [] a b
-  unfolding base
-  base-derivable (role i) (role j) h = rw (eqb-true i j h) same
-  base-derivable (role i) (fixed g) h = absurd (false≢true h)
-  base-derivable (fixed f) (role j) h = let (side, q) = role-side f j h in chain (lies q) own
-  base-derivable (fixed f) (fixed g) h = lies h
 
   -- the test passes
   abbrev Passes : List Query → Atom → Atom → Type 0

@@ -2,7 +2,7 @@
 use Prim.Native.Nat.{ℕ, zero, suc, _≤_, _^_}
 use native.Mathlib.Omega.{arith}
 use mathlib.Core.Path.{_≡_, refl}
-use mathlib.Core.List.{List, [], _∷_}
+use mathlib.Core.List.{List, []}
 use mathlib.Core.Bool.{Bool, true, false, cond, not, _&&_}
 use lib.Dec.{eqb, ltb, leb}
 use lib.ListN.{length}
@@ -13,7 +13,7 @@ use Rattle.model.specs.Bytes.{startsWith}
 use Rattle.model.specs.Policy.{policyHead, rowAt, owner, name, viewers, trusters, members, takes, mayTake, Side, reading, trust, principals, roles, policyNumber, headNumber, rowNumber, principalNumber, ownerNumber, pairNumber, grantsNumber, takesNumber, takenNumber}
 use Rattle.model.specs.Syntax.{Atom, Query, Stmt, skip, assign, empty, block, if, while, query, update, transaction}
 use Rattle.model.specs.Program.{Read, got, bad, readProgram}
-use Rattle.model.specs.Flow.{assigned, mutated, Around, outside, inside, listedIn, allAllowed, bothSides, mayAssign, mayUpdate, flow, bodyVerdict, programVerdict}
+use Rattle.model.specs.Flow.{assigned, mutated, Around, outside, inside, listedIn, allAllowed, bothSides, thenKnown, elseKnown, mayAssign, mayUpdate, flow, bodyVerdict, programVerdict}
 use Rattle.model.proofs.Reading.{program-number}
 
 -- a number of the policy's checks is chosen among numbers up to 6
@@ -98,7 +98,7 @@ module _ (s p : List ℕ) where
   flow-known outside known context (query at q a b) = number {k = flowPlace} (omega arith)
   flow-known (inside listed xs rs) known context (query at q a b) =
       require-known (listedIn q listed) flowPlace at (omega arith)
-      (or-else-known (flow-known (inside listed xs rs) (q ∷ known) _ a) (flow-known (inside listed xs rs) known _ b))
+      (or-else-known (flow-known (inside listed xs rs) (thenKnown q known) _ a) (flow-known (inside listed xs rs) (elseKnown q known) _ b))
   flow-known outside known context (update at ms) = number {k = flowPlace} (omega arith)
   flow-known (inside listed xs rs) known context (update at ms) =
       require-known (allAllowed s ms) flowGrant at (omega arith) (sides-known (mayUpdate s p known context listed xs rs) at)

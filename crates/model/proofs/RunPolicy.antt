@@ -16,7 +16,7 @@ use Rattle.model.specs.Program.{got, readProgram}
 use Rattle.model.specs.Flow.{rolesOf, mutated, Around, outside, inside}
 use Rattle.model.specs.Atoms.{holds}
 use Rattle.model.specs.Value.{evaluate, truth, setValue}
-use Rattle.model.specs.Run.{Update, Result, done, rolled, spent, after, charge, andThen, mutateAll, broken, loop, attempt, execute, Outcome, finish, run}
+use Rattle.model.specs.Run.{Update, Result, done, rolled, spent, after, charge, andThen, mutateAll, broken, watched, loop, attempt, execute, Outcome, finish, run}
 use Rattle.model.proofs.Bytes.{length-put}
 use Rattle.model.proofs.Fits.{Each, each-cons}
 use Rattle.model.proofs.Fixed.{fixed-refl, fixed-trans, agree-refl, agree-trans}
@@ -115,7 +115,7 @@ module _ {R : List ℕ → List ℕ → Type 0} (steps : Steps R) where
   goes (while e a) h listed f s m = loop-goes e (goes a h listed) f f s m
   goes (query at q a b) h listed f s m = charge-goes f (λ left. pick-goes (goes a (h .0) listed left s m) (goes b (h .1) listed left s m) (holds s q))
   goes (update at ms) h listed f s m = charge-goes f (λ left. pick-goes (back (le-refl left) (h s)) (to (le-refl left) (h s) refl) (broken listed s (mutateAll s ms)))
-  goes (transaction at start end qs a) h listed f s m = attempt-goes (goes a h qs) f f s m
+  goes (transaction at start end qs a) h listed f s m = attempt-goes (λ f₁ s₁ m₁. goes a h (watched s₁ qs) f₁ s₁ m₁) f f s m
 
   -- mutations that each go along R do so together
   mutate-all-goes : (ms : List Mutation) → Each (λ k. (s : List ℕ) → R s (mutate s (k .kind) (k .role) (k .operand))) ms → (s : List ℕ) → R s (mutateAll s ms)

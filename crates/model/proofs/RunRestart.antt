@@ -6,7 +6,7 @@ use mathlib.Core.Bool.{Bool, true, false, true≢false}
 use Rattle.model.specs.Syntax.{Query, Expr, Stmt, skip, assign, empty, block, if, while, query, update, transaction}
 use Rattle.model.specs.Atoms.{holds}
 use Rattle.model.specs.Value.{evaluate, truth}
-use Rattle.model.specs.Run.{Update, Result, done, rolled, spent, after, charge, andThen, mutateAll, broken, loop, attempt, execute}
+use Rattle.model.specs.Run.{Update, Result, done, rolled, spent, after, charge, andThen, mutateAll, broken, watched, loop, attempt, execute}
 use Rattle.model.proofs.Fits.{Each}
 
 -- the updates that were carried out
@@ -79,7 +79,7 @@ caused (if e a b) listed f s m = charge-caused f (λ left. pick-caused (truth (e
 caused (while e a) listed f s m = loop-caused e (caused a listed) f f s m
 caused (query at q a b) listed f s m = charge-caused f (λ left. pick-caused (holds s q) (λ _. caused a listed left s m) (caused b listed left s m))
 caused (update at ms) listed f s m = charge-caused f (λ left. pick-caused (broken listed s (mutateAll s ms)) (λ h. by _ (List·Memᴰ·head refl) h) by-none)
-caused (transaction at start end qs a) listed f s m = attempt-caused (execute a qs) f f s m
+caused (transaction at start end qs a) listed f s m = attempt-caused (λ f₁ s₁ m₁. execute a (watched s₁ qs) f₁ s₁ m₁) f f s m
 
 -- a statement none of whose updates failed a listed query is not rolled back
 pub no-break-no-rollback : (x : Stmt) (listed : List Query) (f : ℕ) (s m : List ℕ) → NoneBroken listed (updatesOf (execute x listed f s m))

@@ -88,28 +88,56 @@ unfoldable pub listedIn : Query → List Query → Bool
 listedIn q [] = false
 listedIn q (k ∷ ks) = sameQuery q k || listedIn q ks
 
+-- rule 16 for one mutation: the policy file allows what it adds
+abbrev pub mayMutate : List ℕ → Mutation → Bool
+mayMutate s m = allowed s (m .kind) (m .role) (m .operand)
+
 -- an update adds only what the policy file allows
 unfoldable pub allAllowed : List ℕ → List Mutation → Bool
 allAllowed s [] = true
-allAllowed s (m ∷ ms) = allowed s (m .kind) (m .role) (m .operand) && allAllowed s ms
+allAllowed s (m ∷ ms) = mayMutate s m && allAllowed s ms
 
 -- 17 unless the reading side is derivable, then 18 unless the trust side is
 abbrev pub bothSides : (Side → Bool) → ℕ → Verdict
 bothSides derivable at = require (derivable reading) flowReading at (require (derivable trust) flowTrust at fine)
 
--- the policy s and the program p; a context is a join on each side
+-- a query is known in its first branch
+abbrev pub thenKnown : Query → List Query → List Query
+thenKnown q known = q ∷ known
+
+-- and not in its else branch
+abbrev pub elseKnown : Query → List Query → List Query
+elseKnown q known = known
+
+-- a context is a join on each side; in an if's branches and a while's body the expression's label is joined to it
+abbrev pub underExpr : List ℕ → Expr → (Side → List Atom) → Side → List Atom
+underExpr p e context side = exprLabel p side e ++ context side
+
+-- in a query's branches the query's label is joined to it
+abbrev pub underQuery : Query → (Side → List Atom) → Side → List Atom
+underQuery q context side = queryLabel side q ++ context side
+
+-- what must be at most the label of an assigned variable, besides the expression's label: the context
+abbrev pub assignJoin : (Side → List Atom) → Side → List Atom
+assignJoin context side = context side
+
+-- what must be at most all that an update is checked against: the context and the labels of all listed queries
+abbrev pub updateJoin : (Side → List Atom) → List Query → Side → List Atom
+updateJoin context listed side = context side ++ listLabel side listed
+
+-- the policy s and the program p
 module _ (s p : List ℕ) where
   -- assign: context and expression label are at most the variable's label
   unfoldable pub mayAssign : List Query → (Side → List Atom) → ℕ → Expr → Side → Bool
   mayAssign known context x e side =
-      joinAtMost s known (context side) (label p side x) && joinAtMost s known (exprLabel p side e) (label p side x)
+      joinAtMost s known (assignJoin context side) (label p side x) && joinAtMost s known (exprLabel p side e) (label p side x)
 
   -- update: context and listed queries' labels are at most the label of every variable assigned anywhere in the
   -- transaction, and at most the viewers (trusters) of every role mutated anywhere in it
   unfoldable pub mayUpdate : List Query → (Side → List Atom) → List Query → ℕ → ℕ → Side → Bool
   mayUpdate known context listed variables mutatedRoles side =
-      eachIn variables (λ x. joinAtMost s known (context side ++ listLabel side listed) (label p side x)) 64
-      && eachIn mutatedRoles (λ r. joinAtMost s known (context side ++ listLabel side listed) (fixed (of side r))) 64
+      eachIn variables (λ x. joinAtMost s known (updateJoin context listed side) (label p side x)) 64
+      && eachIn mutatedRoles (λ r. joinAtMost s known (updateJoin context listed side) (fixed (of side r))) 64
 
   -- 15 to 18 at the first statement in reading order, lowest number first
   unfoldable pub flow : Around → List Query → (Side → List Atom) → Stmt → Verdict
@@ -118,14 +146,13 @@ module _ (s p : List ℕ) where
   flow around known context empty = fine
   flow around known context (block a b) = orElse (flow around known context a) (flow around known context b)
   flow around known context (if e a b) =
-      orElse (flow around known (λ side. exprLabel p side e ++ context side) a)
-      (flow around known (λ side. exprLabel p side e ++ context side) b)
-  flow around known context (while e a) = flow around known (λ side. exprLabel p side e ++ context side) a
+      orElse (flow around known (underExpr p e context) a) (flow around known (underExpr p e context) b)
+  flow around known context (while e a) = flow around known (underExpr p e context) a
   flow outside known context (query at q a b) = refused flowPlace at
   flow (inside listed xs rs) known context (query at q a b) =
       require (listedIn q listed) flowPlace at
-      (orElse (flow (inside listed xs rs) (q ∷ known) (λ side. queryLabel side q ++ context side) a)
-      (flow (inside listed xs rs) known (λ side. queryLabel side q ++ context side) b))
+      (orElse (flow (inside listed xs rs) (thenKnown q known) (underQuery q context) a)
+      (flow (inside listed xs rs) (elseKnown q known) (underQuery q context) b))
   flow outside known context (update at ms) = refused flowPlace at
   flow (inside listed xs rs) known context (update at ms) =
       require (allAllowed s ms) flowGrant at (bothSides (mayUpdate known context listed xs rs) at)

@@ -1,0 +1,6 @@
+pub mod Readings
+mod WordLaws
+mod PositionLaws
+mod LabelLaws
+mod WriteLaws
+pub mod BodyLaws

@@ -1,0 +1,5 @@
+pub mod Words
+pub mod Positions
+pub mod Labels
+pub mod Writes
+pub mod Bodies
