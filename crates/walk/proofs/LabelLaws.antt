@@ -4,6 +4,7 @@ use Prim.Native.Nat.{ℕ, _+_, _-_, _*_, _<_}
 use mathlib.Core.List.{List}
 use mathlib.Core.Bool.{Bool, true, false}
 use native.Mathlib.Omega.{arith}
+use lib.Bits.{bitOr}
 use lib.Dec.{eqb}
 use borrow.Author.Tests.{eqb-true, eqb-false}
 use Rattle.model.specs.Bytes.{byte}
@@ -11,7 +12,7 @@ use Rattle.model.specs.Policy.{reading, trust}
 use Rattle.walk.specs.declared.labels.Labels.{Labels}
 use Rattle.walk.specs.Words.{labelByte, labelRole, single, exprRoles}
 use Rattle.walk.specs.Positions.{ahead}
-use Rattle.walk.specs.Labels.{LabelsRight, variableLabels, bothLabels, exprLabels, LabelsAt}
+use Rattle.walk.specs.Labels.{LabelsRight, variableLabels, exprLabels, LabelsAt}
 use Rattle.walk.proofs.Readings.{expr-deep, expr-there, constant-parts, variable-parts, binary-parts}
 use Rattle.walk.proofs.WordLaws.{single-high, single-is}
 use Rattle.walk.proofs.PositionLaws.{ahead-is}
@@ -49,13 +50,13 @@ module _ (p : List ℕ) (vars d at : ℕ) where
         let w : n ≡ at + 2 = l ∙ ahead-is p at 2 (u .inside) in
         s ∙ rw (u .is, u .ends, z, w, right-label (labelByte p reading (byte p (at + 1))) (right reading (byte p (at + 1)) (u .fits)), right-label (labelByte p trust (byte p (at + 1))) (right trust (byte p (at + 1)) (u .fits)))
 
-    pub labels-binary : (n : ℕ) (a b r : Labels) → (c ≡ 0 → ⊥) → (c ≡ 1 → ⊥) → n ≡ ahead p at 1 → LabelsAt p vars (d - 1) n a → LabelsAt p vars (d - 1) (a .next) b → r ≡ bothLabels a b → LabelsAt p vars d at r
+    pub labels-binary : (n : ℕ) (a b : Labels) → (c ≡ 0 → ⊥) → (c ≡ 1 → ⊥) → n ≡ ahead p at 1 → LabelsAt p vars (d - 1) n a → LabelsAt p vars (d - 1) (a .next) b → LabelsAt p vars d at (record { next = b .next; reading = bitOr (a .reading) (b .reading); trust = bitOr (a .trust) (b .trust) })
     unfolding LabelsAt exprRoles
-    labels-binary n a b r k l q f g s right e end h =
+    labels-binary n a b k l q f g right e end h =
         let u = binary-parts p vars d at h (λ z. k (i ∙ z)) (λ z. l (i ∙ z)) in
         let m : n ≡ at + 1 = q ∙ ahead-is p at 1 (omega (arith, expr-there p vars d at h)) in
         let x : a ≡ exprLabels p (u .left) (u .mid) = f right (u .left) (u .mid) (rw m (u .left-read)) in
         let y : b ≡ exprLabels p (u .right) end = g right (u .right) end (rw x (u .right-read)) in
-        s ∙ rw (u .is, x, y)
+        rw (u .is, x, y)
 
 pub ruleset labels = (labels-none, labels-constant, labels-variable, labels-binary)

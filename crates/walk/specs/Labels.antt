@@ -2,7 +2,6 @@
 use mathlib.Core.Path.{_≡_}
 use Prim.Native.Nat.{ℕ, _<_}
 use mathlib.Core.List.{List}
-use lib.Bits.{bitOr}
 use Rattle.model.specs.Policy.{Side, reading, trust}
 use Rattle.model.specs.Syntax.{Expr}
 use Rattle.model.specs.Program.{got, readExpr}
@@ -16,10 +15,6 @@ LabelsRight p vars = (side : Side) (x : ℕ) → x < vars → (labelByte p side 
 -- one variable's labels, as words
 abbrev pub variableLabels : List ℕ → ℕ → ℕ → Labels
 variableLabels p x next = record { next = next; reading = single (labelByte p reading x); trust = single (labelByte p trust x) }
-
--- the labels of two expressions, the second after the first
-abbrev pub bothLabels : Labels → Labels → Labels
-bothLabels a b = record { next = b .next; reading = bitOr (a .reading) (b .reading); trust = bitOr (a .trust) (b .trust) }
 
 -- the labels of an expression that ends at a position
 abbrev pub exprLabels : List ℕ → Expr → ℕ → Labels

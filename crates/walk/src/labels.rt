@@ -1,6 +1,6 @@
 // The labels of an expression, for both sides at once.
 ghost use mathlib.Core.Path.{_≡_};
-ghost use Rattle.walk.specs.Labels.{variableLabels, bothLabels, LabelsAt};
+ghost use Rattle.walk.specs.Labels.{variableLabels, LabelsAt};
 use super::positions;
 use super::words;
 use policy::bytes;
@@ -21,17 +21,6 @@ fn variable_labels(p: &[u8], x: u8, next: usize) -> Labels
         next,
         reading: words::single(positions::byte_at(p, 6 + pair)),
         trust: words::single(positions::byte_at(p, 7 + pair)),
-    }
-}
-
-// The join of two expressions' labels, the second after the first.
-fn joined(a: Labels, b: Labels) -> Labels
-    ensures { λ r. ⌜ r ≡ bothLabels a b ⌝ }
-{
-    Labels {
-        next: b.next,
-        reading: a.reading | b.reading,
-        trust: a.trust | b.trust,
     }
 }
 
@@ -58,7 +47,11 @@ pub fn expr_labels(p: &[u8], vars: u8, depth: u8, at: usize) -> Labels
             let first = expr_labels(p, vars, depth - 1, next);
             let mid = first.next;
             let second = expr_labels(p, vars, depth - 1, mid);
-            joined(first, second)
+            Labels {
+                next: second.next,
+                reading: first.reading | second.reading,
+                trust: first.trust | second.trust,
+            }
         }
     }
 }

@@ -6,7 +6,6 @@ use borrow.Fn.PlainCycle.{Measures, is, falls, and}
 use Rattle.walk.proofs.labels.expr_labels.Reads as expr-labels
 use Rattle.walk.proofs.labels.expr_labels.Kinds as expr-labels-kinds
 use Rattle.walk.proofs.labels.+expr_labels.Lts-expr_labels as expr-labels-lts
-use Rattle.walk.proofs.labels.joined.Reads as joined-reads
 use Rattle.walk.proofs.labels.variable_labels.Reads as variable-labels-reads
 use Rattle.walk.proofs.positions.ahead.Reads as ahead-reads
 use Rattle.walk.proofs.positions.byte_at.Reads as byte-at-reads
@@ -34,8 +33,6 @@ pub +expr-labels-spec : {M : Type 1} → statement M
   variable-labels-reads.Learnt,
   expr-labels-below t,
   expr-labels.Post,
-  joined-reads.Asked,
-  joined-reads.Learnt,
 )
     (expr-labels-at t)
     expr-labels.Post
@@ -49,7 +46,6 @@ pub +expr-labels-spec : {M : Type 1} → statement M
     (λ c. search needs)
     (λ c κs. search needs)
     (λ c. search needs)
-    (λ c κs. search needs)
     (λ c κs. search needs)
     (λ c. search (needs, labels))
     (λ c. search (needs, labels))

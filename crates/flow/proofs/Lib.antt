@@ -1,0 +1,5 @@
+mod ContextLaws
+mod JudgeLaws
+mod ListLaws
+mod CheckLaws
+mod VerdictLaws

@@ -1,0 +1,17 @@
+use Rattle.flow.proofs.CheckLaws.{assign-checked}
+use borrow.Author.Needs.{needs}
+use Rattle.flow.proofs.check.check_assign.Statement.{statement}
+use Rattle.flow.proofs.check.check_assign.Tie as tie
+
+pub check-assign-spec : {M : Type 1} → statement M
+check-assign-spec =
+    tie.close
+    (tie.spec
+    (λ c κs. search needs)
+    (λ c κs. search needs)
+    (λ c κs. search needs)
+    (λ c κs. search needs)
+    (λ c κs. search needs)
+    (λ c κs. search needs)
+    (λ c κs. search needs)
+    (λ c. search (needs, assign-checked)))

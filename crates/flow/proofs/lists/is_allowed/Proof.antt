@@ -1,0 +1,25 @@
+use Rattle.flow.proofs.ListLaws.{one-laws}
+use borrow.Author.Needs.{needs}
+use Rattle.flow.proofs.lists.is_allowed.Statement.{statement}
+use Rattle.flow.proofs.lists.is_allowed.Tie as tie
+use Rattle.flow.proofs.lists.is_allowed.Reads as reads
+use Rattle.flow.proofs.lists.is_allowed.Lts as lts
+use Rattle.flow.proofs.lists.may_hold.Reads as may-hold-reads
+use Rattle.flow.proofs.lists.may_take.Reads as may-take-reads
+use Rattle.walk.proofs.positions.ahead.Reads as ahead-reads
+use Rattle.walk.proofs.positions.byte_at.Reads as byte-at-reads
+
+pub is-allowed-spec : {M : Type 1} → statement M
+is-allowed-spec =
+    tie.close
+    (tie.spec
+    (λ c κs. search needs)
+    (λ c κs. search needs)
+    (λ c κs. search needs)
+    (λ c κs. search needs)
+    (λ c κs. search needs)
+    (λ c κs. search needs)
+    (λ c κs. search needs)
+    (λ c. search (needs, one-laws))
+    (λ c. search (needs, one-laws))
+    (λ c. search (needs, one-laws)))

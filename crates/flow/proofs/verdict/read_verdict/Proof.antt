@@ -1,0 +1,17 @@
+use Rattle.flow.proofs.VerdictLaws.{readings}
+use borrow.Author.Needs.{needs}
+use Rattle.flow.proofs.verdict.read_verdict.Statement.{statement}
+use Rattle.flow.proofs.verdict.read_verdict.Tie as tie
+
+pub read-verdict-spec : {M : Type 1} → statement M
+read-verdict-spec =
+    tie.close
+    (tie.spec
+    (λ c κs. search needs)
+    (λ c κs. search needs)
+    (λ c κs. search needs)
+    (λ c. search (needs, readings))
+    (λ c κs. search needs)
+    (λ c. search (needs, readings))
+    (λ c. search (needs, readings))
+    (λ c. search (needs, readings)))
