@@ -17,6 +17,19 @@ uint32_t rx_policy(const uint8_t *policy, size_t policy_len);
 /* The number 0 to 7 of asking for a role's meaning; *bits is the meaning, bit i for principal i, and 0 at any refusal. */
 uint32_t rx_meaning(const uint8_t *policy, size_t policy_len, uint32_t role, uint32_t *bits);
 
+/* The number of a program under a policy: 1 to 6 of the policy, else 10 to 18 of the program, else 0. */
+uint32_t rx_program(const uint8_t *policy, size_t policy_len, const uint8_t *program, size_t program_len);
+
+/* The same number; where transaction k (from 0 in reading order) exists in an accepted program, where its body starts in
+   program and how long it is, else 0 and 0. */
+uint32_t rx_transaction(const uint8_t *policy, size_t policy_len, const uint8_t *program, size_t program_len, uint32_t k,
+                        size_t *start, size_t *length);
+
+/* The same number, and where it shows: for 10 to 14 the offset of the first byte in reading order that shows it (the
+   program's length where it ends early, 4,096 where it is too long), for 15 to 18 the offset of the statement's code
+   byte, else 0. */
+uint32_t rx_place(const uint8_t *policy, size_t policy_len, const uint8_t *program, size_t program_len, size_t *place);
+
 #ifdef __cplusplus
 }
 #endif

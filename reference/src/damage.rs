@@ -175,7 +175,7 @@ fn other_principal(rng: &mut Rng, policy: &Policy, row: usize) -> u32 {
 
 /// The row, with no role taking it in and taking in none: its viewers and trusters can change
 /// and leave all other rows without fault.
-fn isolated(policy: &mut Policy, row: usize) -> &mut Row {
+pub fn isolated(policy: &mut Policy, row: usize) -> &mut Row {
     for other in &mut policy.rows {
         other.takes &= !(1 << row);
     }

@@ -4,8 +4,22 @@
 
 pub mod number;
 pub mod policy;
+pub mod program;
+
+pub mod order;
+
+pub mod flow;
 
 pub mod damage;
+pub mod damage_program;
+pub mod encode;
 pub mod generate;
+pub mod generate_program;
+pub mod generate_rules;
+pub mod largest;
+pub mod loosen;
 pub mod proved;
+pub mod proved_program;
 pub mod rng;
+pub mod shapes;
+pub mod writer;

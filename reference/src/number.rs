@@ -15,3 +15,22 @@ pub const POLICY_OWNER: u32 = 5;
 pub const POLICY_HOLDING: u32 = 6;
 /// Role ≥ R in asking for a meaning.
 pub const ROLE: u32 = 7;
+
+/// Over 4,096 bytes, ends early, or bytes left over.
+pub const PROGRAM_LENGTH: u32 = 10;
+/// Mark or version.
+pub const PROGRAM_MARK: u32 = 11;
+/// Unknown code, mutation kind, or atom C0–FE.
+pub const PROGRAM_CODE: u32 = 12;
+/// V or n out of range, variable, role or principal too large, label neither role nor everyone.
+pub const PROGRAM_RANGE: u32 = 13;
+/// Too deep.
+pub const PROGRAM_DEPTH: u32 = 14;
+/// Query or update outside a transaction, unlisted query, nested transaction.
+pub const TRANSACTION: u32 = 15;
+/// Added member not viewer and truster, or added taken role with other viewers or trusters.
+pub const ADDED: u32 = 16;
+/// Reading side not derivable.
+pub const READING: u32 = 17;
+/// Trust side not derivable.
+pub const TRUST: u32 = 18;

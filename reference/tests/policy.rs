@@ -1,14 +1,9 @@
 //! The proved library against the reference: every number and every meaning, on random policies.
 //! Each run has a fresh seed, which it prints; `RX_SEED` gives one again.
 
-use std::collections::hash_map::RandomState;
-use std::env;
-use std::hash::{BuildHasher, Hasher};
-use std::hint::black_box;
-use std::io::{self, Write};
-use std::ops::Range;
-use std::sync::OnceLock;
+mod common;
 
+use common::{seed, Framed};
 use reference::damage::{one_row_fault, two_row_faults, FILE_FAULTS, ROW_FAULTS};
 use reference::generate::{chain_back, chain_onward, circle, dense, encode};
 use reference::generate::{noise, valid, valid_of_size};
@@ -112,7 +107,7 @@ impl Run {
         let expected = Policy::read(bytes);
         let number = expected.as_ref().map_or_else(|refusal| *refusal, |_| number::ACCEPTED);
         let framed = Framed::new(&mut self.rng, bytes);
-        let found = proved::policy(framed.policy());
+        let found = proved::policy(framed.bytes());
         assert_eq!(found, number, "{kind}, rx_policy: {bytes:02x?}");
         framed.assert_unchanged();
         match expected {
@@ -144,50 +139,8 @@ fn compare_refused(kind: &str, framed: &Framed, refusal: u32) {
 }
 
 fn compare_meaning(kind: &str, framed: &Framed, role: u32, expected: (u32, u32)) {
-    let found = proved::meaning(framed.policy(), role);
-    let bytes = framed.policy();
+    let found = proved::meaning(framed.bytes(), role);
+    let bytes = framed.bytes();
     assert_eq!(found, expected, "{kind}, rx_meaning of role {role}: {bytes:02x?}");
     framed.assert_unchanged();
-}
-
-/// A policy amid other bytes, at any alignment, with a copy of it all: a write to the policy or
-/// beside it shows, and so does an answer that hangs on what lies beside it.
-struct Framed {
-    all: Vec<u8>,
-    copy: Vec<u8>,
-    policy: Range<usize>,
-}
-
-impl Framed {
-    fn new(rng: &mut Rng, bytes: &[u8]) -> Framed {
-        let before = rng.below(16);
-        let mut all = rng.bytes(before);
-        all.extend(bytes);
-        all.extend(rng.bytes(32));
-        Framed { copy: all.clone(), all, policy: before..before + bytes.len() }
-    }
-
-    fn policy(&self) -> &[u8] {
-        &self.all[self.policy.clone()]
-    }
-
-    fn assert_unchanged(&self) {
-        // Hidden from the compiler, which may otherwise take a shared slice as never written.
-        let (all, copy) = black_box((&self.all, &self.copy));
-        assert!(all == copy, "the call wrote to its input {copy:02x?}");
-    }
-}
-
-/// One seed for all tests of this run.
-fn seed() -> u64 {
-    static SEED: OnceLock<u64> = OnceLock::new();
-    *SEED.get_or_init(|| {
-        let seed = match env::var("RX_SEED") {
-            Ok(given) => given.parse().expect("RX_SEED is a decimal number of 64 bits"),
-            Err(_) => RandomState::new().build_hasher().finish(),
-        };
-        // Past the test harness, which would keep it back and lose it in a crash.
-        writeln!(io::stderr(), "RX_SEED={seed}").expect("standard error can be written");
-        seed
-    })
 }

@@ -17,6 +17,7 @@ pub mod Fits
 pub mod Reading
 pub mod Refusals
 pub mod FlowParts
+pub mod Bodies
 pub mod RunRestart
 pub mod RunLaws
 pub mod RunPolicy

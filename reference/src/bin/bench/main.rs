@@ -1,5 +1,6 @@
 //! `cargo run --release --bin bench`: the proved library and the reference side by side, in
-//! nanoseconds a call, on policies of 64 roles and 32 principals and on the smallest with a role.
+//! nanoseconds a call, on policies of 64 roles and 32 principals and on the smallest with a role,
+//! and on programs of 4,096 bytes under such a policy and on the smallest.
 
 use std::fmt::Debug;
 use std::hint::black_box;
@@ -10,14 +11,32 @@ use reference::policy::{Policy, Row};
 use reference::rng::Rng;
 use reference::{policy, proved};
 
+#[cfg(program_calls)]
+mod programs;
+
+/// While the library has no `rx_program`: see build.rs.
+#[cfg(not(program_calls))]
+mod programs {
+    pub fn programs() -> f64 {
+        println!("programs: target/staticlib/librx.a has no rx_program");
+        0.0
+    }
+}
+
 /// Each line is the pair of batches with the median ratio. A busy machine slows both of a pair
 /// alike; the best of each side would come from different moments, and erred by a fifth.
 const BATCHES: usize = 200;
 const BATCH_TIME: Duration = Duration::from_micros(500);
-/// So many that reading the clock between them does not count.
+/// So many that reading the clock between them does not count; fewer of calls that take long.
 const CALLS_AT_ONCE: u32 = 50;
 
 fn main() {
+    let worst = policies().max(programs::programs());
+    println!("worst ratio {worst:.2}");
+}
+
+/// Prints the lines on policies; gives the worst ratio.
+fn policies() -> f64 {
     let policies = [
         ("minimal", minimal(), 0),
         ("chain, each takes the next", chain_onward(), 0),
@@ -26,7 +45,7 @@ fn main() {
         ("dense, each takes all", dense(), 0),
         ("random", valid_of_size(&mut Rng::new(50), 32, 64), 0),
     ];
-    println!("{:33} {:10} {:>10} {:>13} {:>6}", "policy", "call", "proved", "reference", "ratio");
+    print_head("policy");
     let mut worst: f64 = 0.0;
     for (name, policy, role) in policies {
         let bytes = &encode(&policy);
@@ -41,7 +60,11 @@ fn main() {
             || policy::meaning(black_box(bytes), black_box(role)),
         ));
     }
-    println!("worst ratio {worst:.2}");
+    worst
+}
+
+fn print_head(files: &str) {
+    println!("{files:33} {:10} {:>10} {:>13} {:>6}", "call", "proved", "reference", "ratio");
 }
 
 /// One principal, one role, its owner the only member.
@@ -82,12 +105,15 @@ impl Pair {
 /// The time of one call, over one batch.
 fn nanoseconds<T>(call: impl Fn() -> T) -> f64 {
     let start = Instant::now();
-    let mut calls = 0;
+    black_box(call());
+    let mut calls = 1;
     while start.elapsed() < BATCH_TIME {
-        for _ in 0..CALLS_AT_ONCE {
+        let at_once =
+            if start.elapsed() * CALLS_AT_ONCE < BATCH_TIME * calls { CALLS_AT_ONCE } else { 1 };
+        for _ in 0..at_once {
             black_box(call());
         }
-        calls += CALLS_AT_ONCE;
+        calls += at_once;
     }
     start.elapsed().as_nanos() as f64 / f64::from(calls)
 }

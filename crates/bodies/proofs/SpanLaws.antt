@@ -1,0 +1,46 @@
+-- A law for each return of span.rt: what the search after the labels finds is the body that the model names, inside the program.
+use mathlib.Core.Path.{_≡_, refl, sym, ap, _∙_}
+use Prim.Native.Nat.{ℕ, _+_, _-_, _*_, _≤_}
+use mathlib.Core.List.{List}
+use native.Mathlib.Omega.{arith}
+use lib.ListN.{length, getD, take, drop}
+use Rattle.model.specs.Number.{fine}
+use Rattle.model.specs.Bytes.{byte}
+use Rattle.model.specs.Policy.{principals, roles}
+use Rattle.model.specs.Program.{variables}
+use Rattle.model.specs.Flow.{Part, part, bodies, programVerdict, transactionPart}
+use Rattle.model.specs.Calls.{partBytes}
+use Rattle.model.proofs.Accepted.{accepted-facts}
+use Rattle.model.proofs.FlowParts.{accepted-program}
+use Rattle.model.proofs.Bodies.{PartWithin, each-at, program-body, program-bodies, transaction-is}
+use Rattle.walk.specs.declared.bodies.Found.{Found}
+use Rattle.walk.specs.Bodies.{foundOf, FoundAt}
+use Rattle.walk.proofs.BodyLaws.{found-part}
+
+module _ (s p : List ℕ) (k : ℕ) (h : programVerdict s p ≡ fine) where
+  -- the body that the model names is inside the program
+  part-inside : PartWithin (length p) (transactionPart s p k)
+  part-inside =
+      let a = accepted-program s p h in
+      rw (transaction-is s p k h (a .is-read)) (each-at {Q = PartWithin (length p)} (bodies (a .body)) k (part 0 0) (program-bodies p (principals s) (roles s) (a .is-read)) (omega arith))
+
+  module _ (P R vars pairs : ℕ) (f : Found) (eP : P ≡ byte s 5) (eR : R ≡ byte s 6) (eV : vars ≡ byte p 5) (w : pairs ≡ vars) (g : FoundAt p P R vars 32 (6 + 2 * pairs) k f) where
+    pub span-is : part (f .start) (f .size) ≡ transactionPart s p k
+    unfolding FoundAt
+    span-is =
+        let a = accepted-program s p h in
+        let b = program-body p (principals s) (roles s) (a .is-read) in
+        let few = accepted-facts s (a .policy) .roles-fit in
+        let e : f ≡ foundOf (bodies (a .body)) k (a .end) = g (omega arith, omega arith) (a .body) (a .end) (rw (w, eP, eR, eV) (b .0)) in
+        rw e (found-part (bodies (a .body)) k (a .end)) ∙ sym (transaction-is s p k h (a .is-read))
+
+    pub span-inside : f .start + f .size ≤ length p
+    span-inside = rw (← span-is) at part-inside
+
+pub ruleset spans = (span-is, span-inside)
+
+pub part-is : (p : List ℕ) (start size : ℕ) → take (start + size - start) (drop start p) ≡ partBytes p (part start size)
+unfolding partBytes
+part-is p start size = let k : start + size - start ≡ size = omega arith in rw k
+
+pub ruleset parts = (part-is)

@@ -1,0 +1,280 @@
+//! The flow rules: the verdict of a program under a policy, with its place. Statements are checked
+//! in reading order, each for 15, 16, 17 and 18 in turn, so the first refusal met is the one that
+//! counts. Reading and trust are two sides with the same rules.
+
+use crate::number;
+use crate::order::{Join, Order};
+use crate::policy::Policy;
+use crate::program::{
+    Atom, Expression, Form, Kind, Labels, Mutation, Program, Query, Refusal, Statement, Transaction,
+};
+
+/// The number 0 to 6 or 10 to 18 of any policy and program bytes; and the place that shows 10 to
+/// 18, 0 with the others.
+pub fn verdict(policy: &[u8], program: &[u8]) -> (u32, usize) {
+    match accepted(policy, program) {
+        Ok(_) => (number::ACCEPTED, 0),
+        Err(refusal) => (refusal.number, refusal.place),
+    }
+}
+
+/// Where the body of transaction k starts in the program's bytes, and how long it is: 0 and 0
+/// where there is none or a file is refused.
+pub fn transaction(policy: &[u8], program: &[u8], k: u32) -> (usize, usize) {
+    match accepted(policy, program) {
+        Ok(program) => {
+            let transactions = program.transactions();
+            transactions.get(k as usize).map_or((0, 0), |transaction| transaction.body_part())
+        }
+        Err(_) => (0, 0),
+    }
+}
+
+/// The program, if both files are accepted; a refused policy shows at place 0.
+pub fn accepted(policy: &[u8], program: &[u8]) -> Result<Program, Refusal> {
+    let policy = Policy::read(policy).map_err(|number| Refusal { number, place: 0 })?;
+    let program = Program::read(&policy, program)?;
+    check(&policy, &program)?;
+    Ok(program)
+}
+
+/// The first refusal 15 to 18 in reading order, if any.
+pub fn check(policy: &Policy, program: &Program) -> Result<(), Refusal> {
+    let checker = Checker { policy, labels: &program.labels };
+    let order = Order::new(policy);
+    let start = Context { joins: Sides::both(|_| Join::EMPTY), order: &order, transaction: None };
+    checker.statement(&program.statement, start)
+}
+
+#[derive(Clone, Copy, Debug, PartialEq, Eq)]
+pub enum Side {
+    Reading,
+    Trust,
+}
+
+/// In the order of their numbers.
+pub const SIDES: [Side; 2] = [Side::Reading, Side::Trust];
+
+impl Side {
+    pub fn number(self) -> u32 {
+        match self {
+            Side::Reading => number::READING,
+            Side::Trust => number::TRUST,
+        }
+    }
+
+    /// A variable's label on this side.
+    pub fn label(self, labels: Labels) -> Atom {
+        match self {
+            Side::Reading => labels.reading,
+            Side::Trust => labels.trust,
+        }
+    }
+
+    /// A role's viewers or trusters.
+    pub fn audience(self, role: u8) -> Atom {
+        match self {
+            Side::Reading => Atom::Viewers(role),
+            Side::Trust => Atom::Trusters(role),
+        }
+    }
+
+    /// A query's label: over the roles named in its atoms, in whatever form, their audience.
+    pub fn query_label(self, query: Query) -> Join {
+        let named = [query.0, query.1].into_iter().filter_map(role_named);
+        Join::of(named.map(|role| self.audience(role)))
+    }
+
+    /// An expression's label.
+    pub fn expression_label(self, labels: &[Labels], expression: &Expression) -> Join {
+        let mut join = Join::EMPTY;
+        expression.visit_variables(&mut |variable| {
+            join = join | Join::of([self.label(labels[usize::from(variable)])]);
+        });
+        join
+    }
+}
+
+fn role_named(atom: Atom) -> Option<u8> {
+    match atom {
+        Atom::Role(role) | Atom::Viewers(role) | Atom::Trusters(role) => Some(role),
+        Atom::Everyone => None,
+    }
+}
+
+/// A join on each side.
+#[derive(Clone, Copy, Debug, PartialEq, Eq)]
+pub struct Sides {
+    reading: Join,
+    trust: Join,
+}
+
+impl Sides {
+    pub fn both(join: impl Fn(Side) -> Join) -> Sides {
+        Sides { reading: join(Side::Reading), trust: join(Side::Trust) }
+    }
+
+    pub fn on(&self, side: Side) -> Join {
+        match side {
+            Side::Reading => self.reading,
+            Side::Trust => self.trust,
+        }
+    }
+
+    pub fn joined(&self, other: impl Fn(Side) -> Join) -> Sides {
+        Sides::both(|side| self.on(side) | other(side))
+    }
+}
+
+/// What holds where a statement stands.
+#[derive(Clone, Copy)]
+struct Context<'a> {
+    joins: Sides,
+    /// By the queries known here.
+    order: &'a Order,
+    transaction: Option<&'a Around<'a>>,
+}
+
+/// The transaction around a statement.
+struct Around<'a> {
+    list: &'a [Query],
+    /// The labels of all listed queries.
+    list_labels: Sides,
+    written: Written,
+}
+
+struct Checker<'a> {
+    policy: &'a Policy,
+    labels: &'a [Labels],
+}
+
+impl Checker<'_> {
+    fn statement(&self, statement: &Statement, context: Context) -> Result<(), Refusal> {
+        let refuse = |number| Err(Refusal { number, place: statement.at });
+        match &statement.form {
+            Form::Skip => Ok(()),
+            Form::Assign { variable, expression } => {
+                let label = self.labels[usize::from(*variable)];
+                let flowing =
+                    context.joins.joined(|side| side.expression_label(self.labels, expression));
+                let derivable =
+                    |side: Side| context.order.at_most(flowing.on(side), side.label(label));
+                self.both_sides(statement, derivable)
+            }
+            Form::Block(parts) => parts.iter().try_for_each(|part| self.statement(part, context)),
+            Form::If { condition, first, second } => {
+                let inner = self.under(condition, context);
+                self.statement(first, inner)?;
+                self.statement(second, inner)
+            }
+            Form::While { condition, body } => self.statement(body, self.under(condition, context)),
+            Form::Query { query, first, second } => {
+                let listed = context.transaction.is_some_and(|around| around.list.contains(query));
+                if !listed {
+                    return refuse(number::TRANSACTION);
+                }
+                let joins = context.joins.joined(|side| side.query_label(*query));
+                let order = &context.order.knowing(*query);
+                self.statement(first, Context { joins, order, ..context })?;
+                self.statement(second, Context { joins, ..context })
+            }
+            Form::Update(mutations) => {
+                let Some(around) = context.transaction else {
+                    return refuse(number::TRANSACTION);
+                };
+                if !mutations.iter().all(|mutation| may_make(self.policy, mutation)) {
+                    return refuse(number::ADDED);
+                }
+                let flowing = context.joins.joined(|side| around.list_labels.on(side));
+                let derivable = |side: Side| {
+                    let mut written = around.written.labels(side, self.labels);
+                    written.all(|label| context.order.at_most(flowing.on(side), label))
+                };
+                self.both_sides(statement, derivable)
+            }
+            Form::Transaction(transaction) => {
+                if context.transaction.is_some() {
+                    return refuse(number::TRANSACTION);
+                }
+                self.transaction(transaction, context)
+            }
+        }
+    }
+
+    fn transaction(&self, transaction: &Transaction, context: Context) -> Result<(), Refusal> {
+        let list = &transaction.list;
+        let around = Around {
+            list,
+            list_labels: Sides::both(|side| {
+                list.iter().fold(Join::EMPTY, |join, query| join | side.query_label(*query))
+            }),
+            written: Written::anywhere_in(&transaction.body),
+        };
+        self.statement(&transaction.body, Context { transaction: Some(&around), ..context })
+    }
+
+    /// The context of what an if or while holds.
+    fn under<'a>(&self, condition: &Expression, context: Context<'a>) -> Context<'a> {
+        let joins = context.joins.joined(|side| side.expression_label(self.labels, condition));
+        Context { joins, ..context }
+    }
+
+    fn both_sides(
+        &self,
+        statement: &Statement,
+        derivable: impl Fn(Side) -> bool,
+    ) -> Result<(), Refusal> {
+        match SIDES.into_iter().find(|side| !derivable(*side)) {
+            Some(side) => Err(Refusal { number: side.number(), place: statement.at }),
+            None => Ok(()),
+        }
+    }
+}
+
+/// Whether the policy file allows what is added; any delete is allowed.
+pub fn may_make(policy: &Policy, mutation: &Mutation) -> bool {
+    let row = &policy.rows[usize::from(mutation.role)];
+    match mutation.kind {
+        Kind::AddMember => row.viewers & row.trusters & 1 << mutation.operand != 0,
+        Kind::AddTaken => {
+            let taken = &policy.rows[usize::from(mutation.operand)];
+            taken.viewers == row.viewers && taken.trusters == row.trusters
+        }
+        Kind::DeleteMember | Kind::DeleteTaken => true,
+    }
+}
+
+/// The variables assigned and the roles mutated in a statement, one bit each, reached or not.
+#[derive(Clone, Copy, Debug, Default, PartialEq, Eq)]
+pub struct Written {
+    pub variables: u64,
+    pub roles: u64,
+}
+
+impl Written {
+    pub fn anywhere_in(statement: &Statement) -> Written {
+        let mut written = Written::default();
+        statement.visit(&mut |statement| match &statement.form {
+            Form::Assign { variable, .. } => written.variables |= 1 << variable,
+            Form::Update(mutations) => {
+                mutations.iter().for_each(|mutation| written.roles |= 1 << mutation.role)
+            }
+            _ => {}
+        });
+        written
+    }
+
+    /// What an update's flow has to be at most.
+    pub fn labels<'a>(
+        self,
+        side: Side,
+        labels: &'a [Labels],
+    ) -> impl Iterator<Item = Atom> + use<'a> {
+        let variables = bits(self.variables).map(move |variable| side.label(labels[variable]));
+        variables.chain(bits(self.roles).map(move |role| side.audience(role as u8)))
+    }
+}
+
+fn bits(set: u64) -> impl Iterator<Item = usize> {
+    (0..64).filter(move |bit| set >> bit & 1 == 1)
+}

@@ -1,0 +1,173 @@
+//! What the differential test of programs leans on: each generated program has the number and the
+//! place it is made for, and the accepted ones have what is worth comparing.
+
+use reference::damage_program::*;
+use reference::encode::encode;
+use reference::flow::check;
+use reference::generate_program::{self, any, rich, with_fault, Case};
+use reference::generate_rules::{chain_of_queries, written_elsewhere};
+use reference::largest;
+use reference::number;
+use reference::order::{atoms, Join, Order};
+use reference::policy::Policy;
+use reference::program::{Atom, Form, Program, Query, Refusal, MOST_BYTES};
+use reference::rng::Rng;
+use reference::writer::FAULTS;
+
+const TRIES: usize = 1_000;
+
+#[test]
+fn accepted_programs_are_read_as_they_are_and_accepted() {
+    let mut rng = Rng::new(1);
+    for make in [any, rich] {
+        for _ in 0..TRIES {
+            let Case { policy, mut program } = make(&mut rng);
+            let file = encode(&mut program);
+            assert_eq!(Program::read(&policy, &file.bytes).as_ref(), Ok(&program));
+            assert_eq!(check(&policy, &program), Ok(()), "{policy:?} {program:?}");
+        }
+    }
+}
+
+#[test]
+fn rich_programs_have_a_transaction_a_query_and_an_update() {
+    let mut rng = Rng::new(2);
+    for _ in 0..TRIES {
+        let program = rich(&mut rng).program;
+        let (mut transactions, mut queries, mut updates) = (0, 0, 0);
+        program.statement.visit(&mut |statement| match statement.form {
+            Form::Transaction(_) => transactions += 1,
+            Form::Query { .. } => queries += 1,
+            Form::Update(_) => updates += 1,
+            _ => {}
+        });
+        assert!(transactions > 0 && queries > 0 && updates > 0, "{program:?}");
+    }
+}
+
+#[test]
+fn faults_have_their_numbers_at_their_places() {
+    let mut rng = Rng::new(3);
+    for fault in FAULTS {
+        for _ in 0..TRIES {
+            let Case { policy, mut program } = with_fault(&mut rng, fault);
+            let file = encode(&mut program);
+            let place = file.marked.expect("the fault is marked");
+            let expected = Refusal { number: fault.number(), place };
+            assert_eq!(check(&policy, &program), Err(expected), "{fault:?} {policy:?} {program:?}");
+        }
+    }
+}
+
+#[test]
+fn programs_made_for_a_rule_have_the_number_it_gives() {
+    let mut rng = Rng::new(4);
+    for make in [written_elsewhere, chain_of_queries] {
+        let mut accepted = 0;
+        for _ in 0..TRIES {
+            let (Case { policy, mut program }, number) = make(&mut rng);
+            let file = encode(&mut program);
+            let expected = match number {
+                number::ACCEPTED => Ok(()),
+                _ => Err(Refusal { number, place: file.marked.expect("a statement is marked") }),
+            };
+            assert_eq!(check(&policy, &program), expected, "{policy:?} {program:?}");
+            accepted += usize::from(number == number::ACCEPTED);
+        }
+        assert!(accepted > TRIES / 8 && accepted < 7 * TRIES / 8, "{accepted}");
+    }
+}
+
+#[test]
+fn damage_has_its_number_at_its_place() {
+    let mut rng = Rng::new(5);
+    let assert_refused = |name: &str, refused: Refused| {
+        let found = Program::read(&refused.policy, &refused.bytes);
+        assert_eq!(found, Err(refused.refusal), "{name}: {:02x?}", refused.bytes);
+    };
+    for part in PARTS {
+        for _ in 0..TRIES / 2 {
+            assert_refused(&format!("{part:?}"), wrong_part(&mut rng, part));
+        }
+    }
+    for make in [ends_early, left_over, over_length, too_deep_statement, too_deep_expression] {
+        for _ in 0..TRIES {
+            assert_refused("", make(&mut rng));
+        }
+    }
+}
+
+#[test]
+fn largest_programs_are_accepted() {
+    let cases = [
+        largest::skips(),
+        largest::assignments(),
+        largest::nested_queries(),
+        largest::known_queries(),
+    ];
+    for Case { policy, mut program } in cases {
+        let file = encode(&mut program);
+        assert_eq!(file.bytes.len(), MOST_BYTES);
+        assert_eq!(Program::read(&policy, &file.bytes).as_ref(), Ok(&program));
+        assert_eq!(check(&policy, &program), Ok(()));
+        assert_eq!(program.labels.len(), 64);
+        assert_eq!(policy.rows.len(), 64);
+    }
+}
+
+/// What is at most what is also found by a search along the pairs listed, for every two atoms.
+#[test]
+fn order_is_what_a_search_reaches() {
+    let mut rng = Rng::new(6);
+    let mut derived = 0;
+    for _ in 0..TRIES / 20 {
+        let policy = generate_program::policy(&mut rng, 1, 0);
+        let atoms = atoms(&policy);
+        let known: Vec<Query> =
+            (0..rng.below(6)).map(|_| Query(*rng.pick(&atoms), *rng.pick(&atoms))).collect();
+        let order = known.iter().fold(Order::new(&policy), |order, query| order.knowing(*query));
+        for from in &atoms {
+            let reached = reached_from(&policy, &known, *from);
+            for to in &atoms {
+                let found = order.at_most(Join::of([*from]), *to);
+                assert_eq!(found, reached.contains(to), "{from:?} {to:?} {known:?} {policy:?}");
+                derived += usize::from(found);
+            }
+        }
+        assert!(atoms.iter().all(|atom| order.at_most(Join::EMPTY, *atom)));
+    }
+    assert!(derived > TRIES);
+}
+
+fn reached_from(policy: &Policy, known: &[Query], from: Atom) -> Vec<Atom> {
+    let mut reached = vec![from];
+    let mut next = 0;
+    while next < reached.len() {
+        for to in atoms(policy) {
+            if is_listed(policy, known, reached[next], to) && !reached.contains(&to) {
+                reached.push(to);
+            }
+        }
+        next += 1;
+    }
+    reached
+}
+
+/// Whether the document lists the pair.
+fn is_listed(policy: &Policy, known: &[Query], first: Atom, second: Atom) -> bool {
+    let set = |atom| match atom {
+        Atom::Role(_) => None,
+        Atom::Viewers(role) => Some(policy.rows[usize::from(role)].viewers),
+        Atom::Trusters(role) => Some(policy.rows[usize::from(role)].trusters),
+        Atom::Everyone => Some(policy.everyone()),
+    };
+    let of_a_role = match (first, second) {
+        (Atom::Viewers(one) | Atom::Trusters(one), Atom::Role(other)) => one == other,
+        _ => false,
+    };
+    let second_in_first = match (set(first), set(second)) {
+        (Some(first), Some(second)) => first | second == first,
+        _ => false,
+    };
+    known.contains(&Query(first, second)) || of_a_role || second_in_first
+}
