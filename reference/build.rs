@@ -1,7 +1,6 @@
 //! Links the proved library that `rt staticlib rx` writes under the repository's `target/`.
 
 use std::env;
-use std::fs;
 use std::path::Path;
 
 fn main() {
@@ -15,12 +14,4 @@ fn main() {
     );
     println!("cargo:rustc-link-search=native={}", folder.display());
     println!("cargo:rustc-link-lib=static=rx");
-    // Cargo builds the bench with every test, and it would not link while the library lacks the
-    // calls on programs; it then leaves out their lines. The tests on programs leave out nothing.
-    println!("cargo:rustc-check-cfg=cfg(program_calls)");
-    let bytes = fs::read(&archive).expect("the archive can be read");
-    let name = b"rx_program\0";
-    if bytes.windows(name.len()).any(|part| part == name) {
-        println!("cargo:rustc-cfg=program_calls");
-    }
 }

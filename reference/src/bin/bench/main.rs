@@ -11,17 +11,7 @@ use reference::policy::{Policy, Row};
 use reference::rng::Rng;
 use reference::{policy, proved};
 
-#[cfg(program_calls)]
 mod programs;
-
-/// While the library has no `rx_program`: see build.rs.
-#[cfg(not(program_calls))]
-mod programs {
-    pub fn programs() -> f64 {
-        println!("programs: target/staticlib/librx.a has no rx_program");
-        0.0
-    }
-}
 
 /// Each line is the pair of batches with the median ratio. A busy machine slows both of a pair
 /// alike; the best of each side would come from different moments, and erred by a fifth.
