@@ -8,6 +8,7 @@ use crate::policy::Policy;
 use crate::program::{
     Atom, Expression, Form, Kind, Labels, Mutation, Program, Query, Refusal, Statement, Transaction,
 };
+use crate::rules::Rules;
 
 /// The number 0 to 6 or 10 to 18 of any policy and program bytes; and the place that shows 10 to
 /// 18, 0 with the others.
@@ -32,16 +33,26 @@ pub fn transaction(policy: &[u8], program: &[u8], k: u32) -> (usize, usize) {
 
 /// The program, if both files are accepted; a refused policy shows at place 0.
 pub fn accepted(policy: &[u8], program: &[u8]) -> Result<Program, Refusal> {
+    accepted_by(&Rules::default(), policy, program)
+}
+
+/// The same by other rules.
+pub fn accepted_by(rules: &Rules, policy: &[u8], program: &[u8]) -> Result<Program, Refusal> {
     let policy = Policy::read(policy).map_err(|number| Refusal { number, place: 0 })?;
     let program = Program::read(&policy, program)?;
-    check(&policy, &program)?;
+    check_by(rules, &policy, &program)?;
     Ok(program)
 }
 
 /// The first refusal 15 to 18 in reading order, if any.
 pub fn check(policy: &Policy, program: &Program) -> Result<(), Refusal> {
-    let checker = Checker { policy, labels: &program.labels };
-    let order = Order::new(policy);
+    check_by(&Rules::default(), policy, program)
+}
+
+/// The same by other rules.
+pub fn check_by(rules: &Rules, policy: &Policy, program: &Program) -> Result<(), Refusal> {
+    let checker = Checker { rules, policy, labels: &program.labels };
+    let order = Order::new_by(rules, policy);
     let start = Context { joins: Sides::both(|_| Join::EMPTY), order: &order, transaction: None };
     checker.statement(&program.statement, start)
 }
@@ -81,7 +92,12 @@ impl Side {
 
     /// A query's label: over the roles named in its atoms, in whatever form, their audience.
     pub fn query_label(self, query: Query) -> Join {
-        let named = [query.0, query.1].into_iter().filter_map(role_named);
+        self.query_label_by(&Rules::default(), query)
+    }
+
+    fn query_label_by(self, rules: &Rules, query: Query) -> Join {
+        let atoms = [query.0, query.1].into_iter().take(if rules.query_first_atom { 1 } else { 2 });
+        let named = atoms.filter_map(role_named);
         Join::of(named.map(|role| self.audience(role)))
     }
 
@@ -144,6 +160,7 @@ struct Around<'a> {
 }
 
 struct Checker<'a> {
+    rules: &'a Rules,
     policy: &'a Policy,
     labels: &'a [Labels],
 }
@@ -155,8 +172,11 @@ impl Checker<'_> {
             Form::Skip => Ok(()),
             Form::Assign { variable, expression } => {
                 let label = self.labels[usize::from(*variable)];
-                let flowing =
-                    context.joins.joined(|side| side.expression_label(self.labels, expression));
+                let joins = match self.rules.context_dropped {
+                    false => context.joins,
+                    true => Sides::both(|_| Join::EMPTY),
+                };
+                let flowing = joins.joined(|side| side.expression_label(self.labels, expression));
                 let derivable =
                     |side: Side| context.order.at_most(flowing.on(side), side.label(label));
                 self.both_sides(statement, derivable)
@@ -169,23 +189,33 @@ impl Checker<'_> {
             }
             Form::While { condition, body } => self.statement(body, self.under(condition, context)),
             Form::Query { query, first, second } => {
-                let listed = context.transaction.is_some_and(|around| around.list.contains(query));
-                if !listed {
+                let allowed = context.transaction.is_some_and(|around| {
+                    self.rules.unlisted_allowed || around.list.contains(query)
+                });
+                if !allowed {
                     return refuse(number::TRANSACTION);
                 }
-                let joins = context.joins.joined(|side| side.query_label(*query));
+                let joins = match self.rules.query_not_joined {
+                    false => context.joins.joined(|side| side.query_label_by(self.rules, *query)),
+                    true => context.joins,
+                };
                 let order = &context.order.knowing(*query);
                 self.statement(first, Context { joins, order, ..context })?;
-                self.statement(second, Context { joins, ..context })
+                let order = if self.rules.known_in_else { order } else { context.order };
+                self.statement(second, Context { joins, order, ..context })
             }
             Form::Update(mutations) => {
                 let Some(around) = context.transaction else {
                     return refuse(number::TRANSACTION);
                 };
-                if !mutations.iter().all(|mutation| may_make(self.policy, mutation)) {
+                let allowed = mutations.iter().all(|mutation| may_make(self.policy, mutation));
+                if !allowed && !self.rules.grants_unchecked {
                     return refuse(number::ADDED);
                 }
-                let flowing = context.joins.joined(|side| around.list_labels.on(side));
+                let flowing = match self.rules.listed_left_out {
+                    false => context.joins.joined(|side| around.list_labels.on(side)),
+                    true => context.joins,
+                };
                 let derivable = |side: Side| {
                     let mut written = around.written.labels(side, self.labels);
                     written.all(|label| context.order.at_most(flowing.on(side), label))
@@ -206,7 +236,8 @@ impl Checker<'_> {
         let around = Around {
             list,
             list_labels: Sides::both(|side| {
-                list.iter().fold(Join::EMPTY, |join, query| join | side.query_label(*query))
+                list.iter()
+                    .fold(Join::EMPTY, |join, query| join | side.query_label_by(self.rules, *query))
             }),
             written: Written::anywhere_in(&transaction.body),
         };
@@ -215,6 +246,9 @@ impl Checker<'_> {
 
     /// The context of what an if or while holds.
     fn under<'a>(&self, condition: &Expression, context: Context<'a>) -> Context<'a> {
+        if self.rules.guard_not_joined {
+            return context;
+        }
         let joins = context.joins.joined(|side| side.expression_label(self.labels, condition));
         Context { joins, ..context }
     }

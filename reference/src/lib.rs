@@ -5,10 +5,13 @@
 pub mod number;
 pub mod policy;
 pub mod program;
+pub mod rules;
 
 pub mod order;
 
 pub mod flow;
+
+pub mod run;
 
 pub mod damage;
 pub mod damage_program;

@@ -34,3 +34,5 @@ pub const ADDED: u32 = 16;
 pub const READING: u32 = 17;
 /// Trust side not derivable.
 pub const TRUST: u32 = 18;
+/// A unit wanted with none left.
+pub const SPENT: u32 = 22;

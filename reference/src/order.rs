@@ -3,8 +3,9 @@
 
 use std::ops::BitOr;
 
-use crate::policy::Policy;
+use crate::policy::{lies_in, Policy};
 use crate::program::{Atom, Query};
+use crate::rules::Rules;
 
 /// 64 roles, their viewers, their trusters, and everyone.
 pub const ATOMS: usize = 193;
@@ -66,6 +67,11 @@ pub struct Order {
 impl Order {
     /// The order with no query known.
     pub fn new(policy: &Policy) -> Order {
+        Order::new_by(&Rules::default(), policy)
+    }
+
+    /// The same by other rules.
+    pub fn new_by(rules: &Rules, policy: &Policy) -> Order {
         let atoms = atoms(policy);
         let mut order = Order {
             below: [Join::EMPTY; ATOMS],
@@ -77,12 +83,20 @@ impl Order {
         for role in 0..policy.rows.len() as u8 {
             order.put(Atom::Viewers(role), Atom::Role(role));
             order.put(Atom::Trusters(role), Atom::Role(role));
+            if rules.role_below_viewers {
+                order.put(Atom::Role(role), Atom::Viewers(role));
+                order.put(Atom::Role(role), Atom::Trusters(role));
+            }
         }
         let sets: Vec<(Atom, u32)> =
             atoms.iter().filter_map(|atom| Some((*atom, fixed_set(policy, *atom)?))).collect();
         for (first, first_set) in &sets {
             for (second, second_set) in &sets {
-                if second_set & !first_set == 0 {
+                let (part, whole) = match rules.inclusion_unreversed {
+                    false => (*second_set, *first_set),
+                    true => (*first_set, *second_set),
+                };
+                if lies_in(part, whole) {
                     order.put(*first, *second);
                 }
             }

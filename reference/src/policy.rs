@@ -160,6 +160,7 @@ fn check_head(bytes: &[u8]) -> Result<u8, u32> {
     Ok(principals)
 }
 
-fn lies_in(part: u32, whole: u32) -> bool {
+/// Inclusion of principal sets.
+pub fn lies_in(part: u32, whole: u32) -> bool {
     part & !whole == 0
 }
