@@ -25,4 +25,5 @@ pub mod proved;
 pub mod proved_program;
 pub mod rng;
 pub mod shapes;
+pub mod worked;
 pub mod writer;

@@ -10,6 +10,7 @@ use reference::program::{Atom, Kind, Labels, Program, Query, Statement};
 use reference::proved_program as proved;
 use reference::rng::Rng;
 use reference::shapes::*;
+use reference::worked::{E, F};
 
 const LENGTH: u32 = 10;
 const MARK: u32 = 11;
@@ -20,21 +21,6 @@ const TRANSACTION: u32 = 15;
 const ADDED: u32 = 16;
 const READING: u32 = 17;
 const TRUST: u32 = 18;
-
-/// Policy E of the worked cases: principals 0 and 1, one role, whose only member is its owner 0.
-const E: [u8; 29] = [
-    0x52, 0x58, 0x54, 0x01, 0x00, 0x02, 0x01, 0x00, 0x01, 0x03, 0, 0, 0, 0x03, 0, 0, 0, 0x01, 0, 0,
-    0, 0, 0, 0, 0, 0, 0, 0, 0,
-];
-
-/// Policy F: two roles of owners 0 and 1; role 0 takes role 1, role 1 has member 1.
-const F: [u8; 51] = [
-    0x52, 0x58, 0x54, 0x01, 0x00, 0x02, 0x02, // head
-    0x00, 0x01, 0x03, 0, 0, 0, 0x03, 0, 0, 0, 0x00, 0, 0, 0, 0x02, 0, 0, 0, 0, 0, 0,
-    0, // role 0
-    0x01, 0x01, 0x03, 0, 0, 0, 0x03, 0, 0, 0, 0x02, 0, 0, 0, 0x00, 0, 0, 0, 0, 0, 0,
-    0, // role 1
-];
 
 /// The worked program: v0 is open, v1 has role 0 on both sides; v1 := v0 + 5.
 const WORKED: [u8; 20] = [
