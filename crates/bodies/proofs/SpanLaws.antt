@@ -1,14 +1,13 @@
 -- A law for each return of span.rt: what the search after the labels finds is the body that the model names, inside the program.
-use mathlib.Core.Path.{_≡_, refl, sym, ap, _∙_}
+use mathlib.Core.Path.{_≡_, sym, _∙_}
 use Prim.Native.Nat.{ℕ, _+_, _-_, _*_, _≤_}
 use mathlib.Core.List.{List}
 use native.Mathlib.Omega.{arith}
-use lib.ListN.{length, getD, take, drop}
+use lib.ListN.{length, take, drop}
 use Rattle.model.specs.Number.{fine}
 use Rattle.model.specs.Bytes.{byte}
 use Rattle.model.specs.Policy.{principals, roles}
-use Rattle.model.specs.Program.{variables}
-use Rattle.model.specs.Flow.{Part, part, bodies, programVerdict, transactionPart}
+use Rattle.model.specs.Flow.{part, bodies, programVerdict, transactionPart}
 use Rattle.model.specs.Calls.{partBytes}
 use Rattle.model.proofs.Accepted.{accepted-facts}
 use Rattle.model.proofs.FlowParts.{accepted-program}

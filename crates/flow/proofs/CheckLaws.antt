@@ -1,33 +1,30 @@
 -- A law for each return of check.rt: the tests that led there and what the callees say give the rules' verdict of the tree
 -- that stands at the position.
 use mathlib.Core.Path.{_≡_, refl, sym, ap, _∙_}
-use mathlib.Core.Logic.{_⊎_, inl, inr, ⊎-elim}
-use Prim.Native.Nat.{ℕ, zero, suc, _+_, _-_, _*_, _^_, _<_, _≤_}
+use mathlib.Core.Logic.{⊎-elim}
+use Prim.Native.Nat.{ℕ, _+_, _-_, _*_, _<_, _≤_}
 use native.Mathlib.Omega.{arith}
 use native.Mathlib.Nat.{lt-of-lt-of-le}
-use mathlib.Core.List.{List, [], _∷_, _++_, List·Memᴰ, List·Memᴰ·head, List·Memᴰ·tail}
-use mathlib.Core.Bool.{Bool, true, false, cond, _&&_, and-comm, true≢false}
-use lib.Dec.{eqb, leb}
+use mathlib.Core.List.{List, [], _∷_, _++_, List·Memᴰ·head, List·Memᴰ·tail}
+use mathlib.Core.Bool.{Bool, true, false, and-comm, true≢false}
 use lib.ListN.{length}
 use lib.Bits.{bitOr}
 use borrow.Author.Tests.{le-leb, ne-eqb}
 use Rattle.model.specs.Number.{Verdict, fine, refused, require, orElse}
 use Rattle.model.specs.Bytes.{byte}
-use Rattle.model.specs.Sets.{has}
 use Rattle.model.specs.Policy.{Side, reading, trust, principals, roles, Accepted}
 use Rattle.model.specs.Mutation.{Mutation}
-use Rattle.model.specs.Syntax.{Fixed, of, everyone, Atom, role, fixed, atomByte, Query, Expr, Stmt, skip, assign, empty, block, if, while, query, update, transaction}
-use Rattle.model.specs.Program.{Read, got, readMany, readExpr, readQuery, readMutation, readStmt, blockOf}
+use Rattle.model.specs.Syntax.{of, everyone, Atom, role, fixed, atomByte, Query, Expr, Stmt, skip, assign, empty, block, if, while, query, update, transaction}
+use Rattle.model.specs.Program.{got, readMany, readExpr, readQuery, readStmt, blockOf}
 use Rattle.model.specs.Order.{joinAtMost}
-use Rattle.model.specs.Flow.{Around as Surroundings, outside, inside, label, exprLabel, queryLabel, listLabel, assigned, rolesOf, mutated, listedIn, allAllowed, mayAssign, mayUpdate, flow}
+use Rattle.model.specs.Flow.{Around as Surroundings, outside, inside, label, exprLabel, queryLabel, listLabel, assigned, rolesOf, mutated, allAllowed, mayAssign, mayUpdate, flow}
 use Rattle.model.proofs.Accepted.{accepted-facts}
 use Rattle.model.proofs.Sets.{has-zero, or-has, with-has}
 use Rattle.model.proofs.Fits.{Each, AtomFits, QueryFits, MutationFits, ExprFits, Fits}
-use Rattle.order.specs.Table.{AtomBelow, QueryBelow, Knows, queryRoles, listRoles, Learnt}
+use Rattle.order.specs.Table.{AtomBelow, QueryBelow, queryRoles, listRoles, Learnt}
 use Rattle.order.proofs.Joins.{join-both}
 use Rattle.walk.specs.declared.labels.Labels.{Labels}
 use Rattle.walk.specs.declared.writes.Writes.{Writes}
-use Rattle.walk.specs.Words.{labelByte}
 use Rattle.walk.specs.Positions.{ahead, afterList}
 use Rattle.walk.specs.Labels.{LabelsRight, exprLabels, LabelsAt}
 use Rattle.walk.specs.Writes.{stmtWrites, WritesAt}

@@ -1,10 +1,9 @@
 -- What the code joins to a context's words is what the rules join to the context: an expression's label, the labels of queries.
-use mathlib.Core.Path.{_≡_, refl, sym, ap, _∙_}
-use Prim.Native.Nat.{ℕ, _^_, _<_, _≤_}
-use native.Mathlib.Omega.{arith}
+use mathlib.Core.Path.{_≡_, refl, sym}
+use Prim.Native.Nat.{ℕ, _^_, _<_}
 use mathlib.Core.List.{List, [], _∷_, _++_, List·Memᴰ}
 use mathlib.Core.Bool.{Bool, true, false, cond}
-use lib.Bits.{bitOr, or-zero-l, or-zero-r, or-comm}
+use lib.Bits.{or-zero-l, or-zero-r, or-comm}
 use lib.Dec.{eqb}
 use borrow.Author.Tests.{eqb-true, eqb-false}
 use Rattle.model.specs.Policy.{Side, reading, trust}

@@ -1,6 +1,5 @@
 -- A law for each return of judge.rt, and its loops: a number that passes its test may leave the set, one that does not decides.
 use mathlib.Core.Path.{_≡_, refl, sym, ap, _∙_}
-use mathlib.Core.Logic.{_⊎_, inl, inr, ⊎-elim}
 use Prim.Native.Nat.{ℕ, zero, suc, _+_, _*_, _^_, _<_, _≤_}
 use native.Mathlib.Omega.{arith}
 use native.Mathlib.Decide.{decLt, ℕ-discrete}
@@ -10,16 +9,15 @@ use lib.Pow.{pow-pos}
 use lib.Count.{trailingZeros}
 use Rattle.model.specs.Sets.{has, without}
 use Rattle.model.specs.Bytes.{byte}
-use Rattle.model.specs.Policy.{Side, reading, trust, roles, Accepted}
+use Rattle.model.specs.Policy.{Side, reading, trust, roles}
 use Rattle.model.specs.Syntax.{of, Atom, fixed, Query, atomByte}
 use Rattle.model.specs.Order.{joinAtMost}
 use Rattle.model.specs.Flow.{label, eachIn}
 use Rattle.model.proofs.Sets.{has-zero, has-below, has-without, without-has}
-use Rattle.order.specs.Table.{AtomBelow, Knows, sideOf, Decides}
+use Rattle.order.specs.Table.{sideOf, Decides}
 use Rattle.walk.specs.Words.{labelByte}
 use Rattle.flow.specs.declared.context.Context.{Context}
-use Rattle.flow.specs.Context.{ContextIs}
-use Rattle.flow.specs.Judge.{LabelsBelow, SetBelow, Lowest, watchersByte, sidesNumber, Asked, BelowSide, labelsAbove, watchersAbove, VariablesBelow, RolesBelow, MayWrite, WriteNumber, AssignNumber}
+use Rattle.flow.specs.Judge.{LabelsBelow, Lowest, watchersByte, sidesNumber, Asked, BelowSide, labelsAbove, watchersAbove, VariablesBelow, RolesBelow, MayWrite, WriteNumber, AssignNumber}
 use Rattle.flow.proofs.ContextLaws.{label-atom, atom-byte, label-below}
 
 -- a set's numbers that pass a test

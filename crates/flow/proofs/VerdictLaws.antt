@@ -1,15 +1,14 @@
 -- A law for each return of verdict.rt: a program that was read stands for its tree from the first byte of its body on.
-use mathlib.Core.Path.{_≡_, refl, sym, ap, _∙_}
-use Prim.Native.Nat.{ℕ, _+_, _*_, _<_, _≤_}
+use mathlib.Core.Path.{_≡_, refl, sym, _∙_}
+use Prim.Native.Nat.{ℕ, _+_, _*_}
 use native.Mathlib.Omega.{arith}
 use mathlib.Core.List.{List, []}
-use mathlib.Core.Bool.{true, false}
 use borrow.Author.Tests.{ne-eqb}
 use Rattle.model.specs.Number.{Verdict as Judgement, fine, refused}
 use Rattle.model.specs.Bytes.{byte}
-use Rattle.model.specs.Policy.{Side, reading, trust, principals, roles, policyNumber, Accepted}
-use Rattle.model.specs.Syntax.{Atom, Query, Stmt}
-use Rattle.model.specs.Program.{Read as Reading, got, bad, readStmt, variables, readProgram}
+use Rattle.model.specs.Policy.{reading, trust, principals, roles, policyNumber, Accepted}
+use Rattle.model.specs.Syntax.{Stmt}
+use Rattle.model.specs.Program.{Read as Reading, got, bad, variables, readProgram}
 use Rattle.model.specs.Flow.{outside, flow, bodyVerdict, programVerdict}
 use Rattle.model.proofs.Accepted.{accepted-facts}
 use Rattle.model.proofs.Reading.{program-fits}
@@ -17,10 +16,8 @@ use Rattle.order.specs.Table.{Knows}
 use Rattle.program.specs.declared.answer.Read.{Read}
 use Rattle.program.specs.declared.answer.Read.the-variants.{At, Bad}
 use Rattle.program.specs.Answer.{answerOf}
-use Rattle.walk.specs.Words.{labelByte}
 use Rattle.walk.proofs.Readings.{ProgramParts, program-parts}
 use Rattle.flow.specs.declared.context.Context.{Context}
-use Rattle.flow.specs.declared.check.Sizes.{Sizes}
 use Rattle.flow.specs.declared.check.Around.{Around}
 use Rattle.flow.specs.declared.check.Checked.{Checked}
 use Rattle.flow.specs.declared.check.Checked.the-variants as checked
@@ -28,7 +25,7 @@ use Rattle.flow.specs.declared.verdict.Verdict.{Verdict}
 use Rattle.flow.specs.declared.verdict.Verdict.the-variants.{Fine, Refused}
 use Rattle.flow.specs.Context.{noContext}
 use Rattle.flow.specs.Judge.{LabelsBelow}
-use Rattle.flow.specs.Check.{noTransaction, checkedOf, Ready, Stands, CheckedAt}
+use Rattle.flow.specs.Check.{noTransaction, checkedOf, Ready, CheckedAt}
 use Rattle.flow.specs.Verdict.{verdictAs, BodyVerdict}
 use Rattle.flow.proofs.ContextLaws.{context-none}
 

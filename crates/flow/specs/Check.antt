@@ -1,15 +1,15 @@
 -- What the check of a statement answers: the flow rules' verdict of the tree that stands at a position, and where it ends.
 use mathlib.Core.Path.{_≡_}
-use Prim.Native.Nat.{ℕ, _+_, _*_, _<_, _≤_}
+use Prim.Native.Nat.{ℕ, _+_, _*_, _≤_}
 use mathlib.Core.List.{List, [], _∷_, List·Memᴰ}
-use mathlib.Core.Bool.{Bool, true, false, cond}
+use mathlib.Core.Bool.{true, false, cond}
 use lib.Dec.{eqb}
 use lib.ListN.{length}
 use Rattle.model.specs.Number.{Verdict, fine, refused, orElse}
 use Rattle.model.specs.Bytes.{byte}
 use Rattle.model.specs.Policy.{Side, principals, roles, Accepted}
 use Rattle.model.specs.Syntax.{Atom, Query, atomByte, Stmt}
-use Rattle.model.specs.Program.{Read, got, readMany, readQuery, readStmt}
+use Rattle.model.specs.Program.{got, readMany, readQuery, readStmt}
 use Rattle.model.specs.Flow.{Around as Surroundings, outside, inside, assigned, mutated, flow}
 use Rattle.model.proofs.Fits.{Each, QueryFits, Fits}
 use Rattle.order.specs.Table.{tableWords, QueryBelow, Knows, listRoles}

@@ -6,7 +6,7 @@ use mathlib.Core.Bool.{Bool}
 use Rattle.model.specs.Policy.{Accepted, principals, roles, mayHold, mayTake}
 use Rattle.model.specs.Mutation.{Mutation, allowed}
 use Rattle.model.specs.Syntax.{Query, atomByte, sameQuery}
-use Rattle.model.specs.Program.{Read, got, readMany, readQuery, readMutation}
+use Rattle.model.specs.Program.{got, readMany, readQuery, readMutation}
 use Rattle.model.specs.Flow.{listedIn, allAllowed}
 use Rattle.order.specs.Table.{QueryBelow, queryRoles, listRoles}
 

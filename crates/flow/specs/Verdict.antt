@@ -5,7 +5,7 @@ use mathlib.Core.List.{List, []}
 use Rattle.model.specs.Number.{Verdict as Judgement, fine, refused}
 use Rattle.model.specs.Policy.{principals, roles}
 use Rattle.model.specs.Syntax.{Stmt}
-use Rattle.model.specs.Program.{Read, got, readProgram}
+use Rattle.model.specs.Program.{got, readProgram}
 use Rattle.model.specs.Flow.{outside, flow}
 use Rattle.flow.specs.declared.verdict.Verdict.{Verdict}
 use Rattle.flow.specs.declared.verdict.Verdict.the-variants.{Fine, Refused}

@@ -1,12 +1,11 @@
 -- A law for each return: what the flow checker's answer says of the verdict.
 use mathlib.Core.Path.{_≡_, refl, sym, ap, _∙_}
-use Prim.Native.Nat.{ℕ, _+_, _≤_}
+use Prim.Native.Nat.{ℕ}
 use mathlib.Core.List.{List}
 use native.Mathlib.Omega.{arith}
-use lib.ListN.{length}
-use Rattle.model.specs.Number.{Verdict, fine, refused, numberOf, placeOf}
-use Rattle.model.specs.Flow.{Part, part, programVerdict, transactionPart}
-use Rattle.model.specs.Calls.{Located, located, locate, Body, body, bodyOf, partBytes}
+use Rattle.model.specs.Number.{Verdict, fine, refused, numberOf}
+use Rattle.model.specs.Flow.{part, programVerdict, transactionPart}
+use Rattle.model.specs.Calls.{located, locate, body, bodyOf, partBytes}
 use Rattle.model.proofs.Bodies.{transaction-none}
 use Rattle.flow.specs.declared.verdict.Verdict.{Verdict as Answer}
 use Rattle.flow.specs.declared.verdict.Verdict.the-variants.{Fine, Refused}

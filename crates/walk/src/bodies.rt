@@ -2,7 +2,7 @@
 // is a cycle of calls in which the remaining depth falls, and it ends where the body is found. `principals`, `roles` and
 // `vars` are those under which the program was read: the contracts speak of that reading.
 ghost use mathlib.Core.Path.{_≡_};
-ghost use Prim.Native.Nat.{ℕ, _-_};
+ghost use Prim.Native.Nat.{_-_};
 ghost use Rattle.walk.specs.Bodies.{noneFound, FoundAt, FoundInPair, FoundInBlock, FoundInBody};
 use super::positions;
 use super::writes;

@@ -1,8 +1,7 @@
 // Positions in a program's bytes. Each function takes every position. Past the end stands 0, and a position ahead is never past
 // the end: so a walk over bytes that are no tree does not turn back, and past the end meets only what has no parts.
 ghost use mathlib.Core.Path.{_≡_};
-ghost use Prim.Native.Nat.{ℕ, _≤_};
-ghost use lib.ListN.{length};
+ghost use Prim.Native.Nat.{_≤_};
 ghost use Rattle.model.specs.Bytes.{byte};
 ghost use Rattle.walk.specs.Positions.{ahead, afterList, ExprEnds};
 use policy::bytes;
