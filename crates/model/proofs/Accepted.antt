@@ -58,9 +58,20 @@ taken-zero : (s : List ℕ) (i j : ℕ) → takenNumber s i j ≡ 0 → has (tak
 unfolding takenNumber
 taken-zero s i j h t = unless-zero (mayTake s i j) _ _ (rw t at h) .0
 
+-- the checks of what a row grants, one by one
+pub grants-zero : (s : List ℕ) (i : ℕ) → grantsNumber s i ≡ 0
+    → (within (members s i) (viewers s i) ≡ true) × (within (members s i) (trusters s i) ≡ true) × (takes s i < 2 ^ roles s)
+    × ((j : ℕ) → j < roles s → has (takes s i) j ≡ true → mayTake s i j ≡ true)
+unfolding takesNumber grantsNumber
+grants-zero s i g =
+    let mv = unless-zero (within (members s i) (viewers s i)) _ _ g in
+    let mt = unless-zero (within (members s i) (trusters s i)) _ _ (mv .1) in
+    let k = unless-zero (ltb (takes s i) (2 ^ roles s)) _ _ (mt .1) in
+    (mv .0, mt .0, ltb-true _ _ (k .0), λ j l. taken-zero s i j (below-zero (takenNumber s i) (roles s) (k .1) j l))
+
 -- a row's checks, one by one
 row-facts : (s : List ℕ) (i : ℕ) → rowNumber s i ≡ 0 → grantsNumber s i ≡ 0 → RowFacts s i
-unfolding rowNumber principalNumber ownerNumber takesNumber grantsNumber
+unfolding rowNumber principalNumber ownerNumber
 row-facts s i h g =
     let a = first-zero (principalNumber s i) _ h in
     let b = first-zero (ownerNumber s i) _ (a .1) in
@@ -70,9 +81,7 @@ row-facts s i h g =
     let m = unless-zero (ltb (members s i) (2 ^ principals s)) _ _ (t .1) in
     let ov = unless-zero (has (viewers s i) (owner s i)) _ _ (b .0) in
     let ot = unless-zero (has (trusters s i) (owner s i)) _ _ (ov .1) in
-    let mv = unless-zero (within (members s i) (viewers s i)) _ _ g in
-    let mt = unless-zero (within (members s i) (trusters s i)) _ _ (mv .1) in
-    let k = unless-zero (ltb (takes s i) (2 ^ roles s)) _ _ (mt .1) in
+    let (mv, mt, fit, allowed) = grants-zero s i g in
     record {
       owner-below = ltb-true _ _ (o .0);
       viewers-below = ltb-true _ _ (v .0);
@@ -81,10 +90,10 @@ row-facts s i h g =
       owner-views = ov .0;
       owner-trusts = ot .0;
       pair-new = λ j l. pair-zero s i j (below-zero (pairNumber s i) i (b .1) j l);
-      members-view = mv .0;
-      members-trust = mt .0;
-      takes-below = ltb-true _ _ (k .0);
-      takes-allowed = λ j l. taken-zero s i j (below-zero (takenNumber s i) (roles s) (k .1) j l);
+      members-view = mv;
+      members-trust = mt;
+      takes-below = fit;
+      takes-allowed = allowed;
     }
 
 pub accepted-facts : (s : List ℕ) → Accepted s → Facts s
@@ -108,7 +117,7 @@ zero-head s f =
     let seven : 7 ≤ length s = omega arith in
     search (le-leb, eq-eqb, f .head)
 
-zero-pair : (s : List ℕ) (i j : ℕ) → (owner s i ≡ owner s j → name s i ≡ name s j → ⊥) → pairNumber s i j ≡ 0
+pub zero-pair : (s : List ℕ) (i j : ℕ) → (owner s i ≡ owner s j → name s i ≡ name s j → ⊥) → pairNumber s i j ≡ 0
 unfolding pairNumber
 zero-pair s i j h = rw (not-both _ _ (λ a b. h (eqb-true _ _ a) (eqb-true _ _ b)))
   where
@@ -117,7 +126,7 @@ zero-pair s i j h = rw (not-both _ _ (λ a b. h (eqb-true _ _ a) (eqb-true _ _ b
     not-both true false k = refl
     not-both false b k = refl
 
-zero-taken : (s : List ℕ) (i j : ℕ) → (has (takes s i) j ≡ true → mayTake s i j ≡ true) → takenNumber s i j ≡ 0
+pub zero-taken : (s : List ℕ) (i j : ℕ) → (has (takes s i) j ≡ true → mayTake s i j ≡ true) → takenNumber s i j ≡ 0
 unfolding takenNumber
 zero-taken s i j h = rw (implies _ _ h)
   where

@@ -2,17 +2,23 @@
 use mathlib.Core.Path.{_≡_, refl, sym, _∙_}
 use Prim.Native.Nat.{ℕ, zero, suc, _+_, _*_, _-_, _^_, _<_, _≤_}
 use mathlib.Core.List.{List}
-use mathlib.Core.Bool.{Bool, true, false}
+use mathlib.Core.Logic.{⊎-elim}
+use mathlib.Core.Bool.{Bool, true, false, true≢false}
 use native.Mathlib.Omega.{arith}
 use native.Mathlib.Numerals.{add-one}
-use lib.Dec.{ltb}
+use lib.Dec.{eqb, ltb}
+use lib.Bits.{bitOr}
 use lib.ListN.{length}
-use borrow.Author.Tests.{lt-ltb, le-ltb, le-leb, lt-leb, eq-eqb, ne-eqb, ltb-true, not-true, not-false}
+use borrow.Author.Tests.{lt-ltb, le-ltb, le-leb, lt-leb, eq-eqb, ne-eqb, ltb-true, eqb-true, not-true, not-false}
 use Rattle.model.specs.Number.{first, firstBelow}
 use Rattle.model.specs.Sets.{has, within}
 use Rattle.model.specs.Bytes.{startsWith}
-use Rattle.model.specs.Policy.{policyHead, principals, roles, rowAt, owner, name, viewers, trusters, members, takes, headNumber, principalNumber, ownerNumber, pairNumber, rowNumber, takenNumber, takesNumber, grantsNumber, policyNumber}
-use Rattle.model.proofs.Accepted.{head-zero}
+use Rattle.model.specs.Policy.{policyHead, principals, roles, rowAt, owner, name, viewers, trusters, members, takes, mayTake, headNumber, principalNumber, ownerNumber, pairNumber, rowNumber, takenNumber, takesNumber, grantsNumber, policyNumber}
+use Rattle.model.proofs.Number.{zero-below}
+use Rattle.model.proofs.Truth.{both}
+use Rattle.model.proofs.Sets.{has-zero, or-has, within-has, has-below}
+use Rattle.model.proofs.Accepted.{head-zero, grants-zero, zero-taken}
+use Rattle.policy.specs.Takable.{Takable}
 
 -- the head
 module _ (s : List ℕ) where
@@ -110,23 +116,6 @@ module _ (s : List ℕ) (i o v : ℕ) (a : Bool) (p : o ≡ owner s i) (q : v �
 
 pub ruleset owner-laws = (owner-hidden, owner-distrusted, owner-right, not-true, not-false)
 
--- 5 of row i: its owner and name against row j's
-module _ (s : List ℕ) (i j : ℕ) where
-  pub owners-differ : (owner s i ≡ owner s j → ⊥) → 0 ≡ pairNumber s i j
-  unfolding pairNumber
-  owners-differ h = simp (ne-eqb _ _ h)
-
-  module _ (e : owner s i ≡ owner s j) where
-    pub names-differ : (name s i ≡ name s j → ⊥) → 0 ≡ pairNumber s i j
-    unfolding pairNumber
-    names-differ h = simp (eq-eqb _ _ e, ne-eqb _ _ h)
-
-    pub pair-same : name s i ≡ name s j → 5 ≡ pairNumber s i j
-    unfolding pairNumber
-    pair-same h = simp (eq-eqb _ _ e, eq-eqb _ _ h)
-
-pub ruleset pair-laws = (owners-differ, names-differ, pair-same)
-
 -- a loop that looks for the first number that is not 0
 module _ (f : ℕ → ℕ) where
   stays : (n d k : ℕ) → firstBelow f n ≡ k → (k ≡ 0 → ⊥) → firstBelow f (d + n) ≡ k
@@ -200,7 +189,7 @@ module _ (s : List ℕ) (i m v : ℕ) (a : Bool) (p : m ≡ members s i) (q : v 
 
 pub ruleset grants-laws = (members-hidden, members-distrusted, members-right, not-true, not-false)
 
--- 6 of row i: the roles that it takes
+-- 6 of row i: the roles that it takes, of which some are known to be such as it may
 module _ (s : List ℕ) (i n row : ℕ) (c : Bool) (x : row ≡ takes s i) (y : c ≡ ltb row (2 ^ n)) where
   pub takes-large : c ≡ false → 6 ≡ takesNumber s i n
   unfolding takesNumber
@@ -213,7 +202,33 @@ module _ (s : List ℕ) (i n row : ℕ) (c : Bool) (x : row ≡ takes s i) (y : 
   unfolding takesNumber
   takes-each f r z = rw (← x) (simp (sym y ∙ f) z)
 
-pub ruleset row-takes = (takes-large, takes-small, takes-each, not-true, not-false)
+  pub takes-known : c ≡ true → (known : ℕ) (b : Bool) → Takable s i known → b ≡ within row known → b ≡ true → 0 ≡ takesNumber s i n
+  unfolding Takable
+  takes-known f known b may w h = takes-each f 0
+      (sym (zero-below (takenNumber s i) n (λ j l. zero-taken s i j (λ g. may j (within-has row known j (sym w ∙ h) (rw (← x) at g))))))
+
+pub ruleset row-takes = (takes-large, takes-small, takes-each, takes-known, not-true, not-false)
+
+-- what is known of one row, and of the next
+module _ (s : List ℕ) (i : ℕ) where
+  pub known-none : Takable s i 0
+  unfolding Takable
+  known-none j h = absurd (true≢false (sym h ∙ has-zero j))
+
+  pub known-same : (k known : ℕ) (b : Bool) → Takable s k known → b ≡ mayTake s i k → b ≡ true → Takable s i known
+  unfolding Takable mayTake
+  known-same k known b may e h j g =
+      let (v, t) = both (eqb (viewers s i) (viewers s k)) (eqb (trusters s i) (trusters s k)) (sym e ∙ h) in
+      let (w, u) = both (eqb (viewers s k) (viewers s j)) (eqb (trusters s k) (trusters s j)) (may j g) in
+      simp (eqb-true (viewers s i) (viewers s k) v, eqb-true (trusters s i) (trusters s k) t, w, u)
+
+  pub known-more : (known row k : ℕ) → Takable s i known → row ≡ takes s i → k ≡ grantsNumber s i → k ≡ 0 → Takable s i (bitOr known row)
+  unfolding Takable
+  known-more known row k may x e z j h =
+      let (v, t, fits, allowed) = grants-zero s i (sym e ∙ z) in
+      ⊎-elim (λ g. may j g) (λ g. let m : has (takes s i) j ≡ true = rw x at g in allowed j (has-below (roles s) (takes s i) j fits m) m) (or-has known row j h)
+
+pub ruleset known-laws = (known-none, known-same, known-more)
 
 -- the whole policy
 module _ (s : List ℕ) (a : ℕ) (p : a ≡ headNumber s) where
@@ -229,6 +244,9 @@ module _ (s : List ℕ) (a : ℕ) (p : a ≡ headNumber s) where
     pub head-seven : 6 < length s
     head-seven = omega (arith, right-length)
 
+    pub head-few : principals s ≤ 32
+    head-few = head-zero s (sym p ∙ z) .2
+
     pub head-rows : (n : ℕ) → n ≡ roles s → rowAt n ≤ length s
     head-rows n e = omega (arith, right-length)
 
@@ -241,4 +259,4 @@ module _ (s : List ℕ) (a : ℕ) (p : a ≡ headNumber s) where
       unfolding policyNumber
       policy-grants y k g = first-not _ _ k (sym p ∙ z) (sym (first-not _ _ k (sym (rw e at q) ∙ y) (sym (rw e at g))))
 
-pub ruleset policy-laws = (policy-head, head-seven, head-rows, policy-rows, policy-grants)
+pub ruleset policy-laws = (policy-head, head-seven, head-few, head-rows, policy-rows, policy-grants)

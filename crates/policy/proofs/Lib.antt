@@ -3,4 +3,5 @@ mod ByteLaws
 mod RowLaws
 mod CheckLaws
 mod TakesLaws
+mod PairLaws
 mod MeaningLaws

@@ -6,15 +6,14 @@ use mathlib.Core.List.{List}
 use mathlib.Core.Bool.{Bool, true, false, true≢false, cond}
 use native.Mathlib.Omega.{arith}
 use native.Mathlib.Decide.{ℕ-discrete}
-use lib.Dec.{eqb·suc-zero}
+use lib.Dec.{eqb}
 use lib.Pow.{pow-pos}
 use lib.ListN.{length}
 use borrow.Author.Tests.{eq-eqb, ne-eqb}
 use Rattle.model.specs.Number.{unless, first, firstBelow}
 use Rattle.model.specs.Sets.{has, without}
 use Rattle.model.specs.Policy.{rowAt, viewers, trusters, takes, mayTake, takenNumber}
-use Rattle.model.proofs.Below.{last-or}
-use Rattle.model.proofs.Number.{zero-below}
+use Rattle.model.proofs.Number.{unless-or, zero-below, one-number}
 use Rattle.model.proofs.Sets.{has-zero, has-below, has-without, without-has}
 use Rattle.policy.proofs.SetLaws.{held-power, next-without}
 
@@ -26,22 +25,28 @@ same-or x j = go (ℕ-discrete x j)
     go (yes e) = inl e
     go (no k) = inr k
 
--- 6 of row i: one role that it takes; v, w and t, u are the viewers and trusters of both rows
-module _ (s : List ℕ) (i j : ℕ) (g : has (takes s i) j ≡ true) (v w : ℕ) (q : v ≡ viewers s i) (e : w ≡ viewers s j) where
-  pub taken-viewers : (v ≡ w → ⊥) → 6 ≡ takenNumber s i j
-  unfolding takenNumber mayTake
-  taken-viewers h = let k : viewers s i ≡ viewers s j → ⊥ = λ x. h (q ∙ x ∙ sym e) in simp (g, ne-eqb _ _ k)
+-- 6 of row i: whether it may take in role j; v, w and t, u are the viewers and trusters of both rows
+module _ (s : List ℕ) (i j v w : ℕ) (q : v ≡ viewers s i) (e : w ≡ viewers s j) where
+  pub viewers-differ : (v ≡ w → ⊥) → false ≡ mayTake s i j
+  unfolding mayTake
+  viewers-differ h = let k : viewers s i ≡ viewers s j → ⊥ = λ x. h (q ∙ x ∙ sym e) in simp (ne-eqb _ _ k)
 
-  module _ (h : v ≡ w) (t u : ℕ) (x : t ≡ trusters s i) (y : u ≡ trusters s j) where
-    pub taken-trusters : (t ≡ u → ⊥) → 6 ≡ takenNumber s i j
-    unfolding takenNumber mayTake
-    taken-trusters k = let l : trusters s i ≡ trusters s j → ⊥ = λ z. k (x ∙ z ∙ sym y) in simp (g, eq-eqb _ _ (sym q ∙ h ∙ e), ne-eqb _ _ l)
+  pub trusters-decide : v ≡ w → (t u : ℕ) → t ≡ trusters s i → u ≡ trusters s j → eqb t u ≡ mayTake s i j
+  unfolding mayTake
+  trusters-decide h t u x y = rw (x, y) (simp (eq-eqb _ _ (sym q ∙ h ∙ e)))
 
-    pub taken-right : t ≡ u → 0 ≡ takenNumber s i j
-    unfolding takenNumber mayTake
-    taken-right k = simp (g, eq-eqb _ _ (sym q ∙ h ∙ e), eq-eqb _ _ (sym x ∙ k ∙ y))
+pub ruleset may-laws = (viewers-differ, trusters-decide)
 
-pub ruleset taken-laws = (taken-viewers, taken-trusters, taken-right)
+module _ (s : List ℕ) (i j : ℕ) (b : Bool) (g : has (takes s i) j ≡ true) (e : b ≡ mayTake s i j) where
+  pub taken-right : b ≡ true → 0 ≡ takenNumber s i j
+  unfolding takenNumber
+  taken-right h = simp (g, sym e ∙ h)
+
+  pub taken-wrong : b ≡ false → 6 ≡ takenNumber s i j
+  unfolding takenNumber
+  taken-wrong h = simp (g, sym e ∙ h)
+
+pub ruleset taken-laws = (taken-right, taken-wrong)
 
 -- the roles that row i takes, one after the other, lowest first: those no longer in rest are right
 unfoldable pub Passed : List ℕ → ℕ → ℕ → Type 0
@@ -57,34 +62,7 @@ taken-none s i j h = simp h
 
 taken-six : (s : List ℕ) (i j : ℕ) → (takenNumber s i j ≡ 0) ⊎ (takenNumber s i j ≡ 6)
 unfolding takenNumber
-taken-six s i j = go (cond (has (takes s i) j) (mayTake s i j) true)
-  where
-    go : (b : Bool) → (unless b 6 0 ≡ 0) ⊎ (unless b 6 0 ≡ 6)
-    go true = inl refl
-    go false = inr refl
-
-each-below : (f : ℕ → ℕ) (k n : ℕ) → ((j : ℕ) → (f j ≡ 0) ⊎ (f j ≡ k)) → (firstBelow f n ≡ 0) ⊎ (firstBelow f n ≡ k)
-unfolding firstBelow
-each-below f k zero each = inl refl
-each-below f k (suc n) each = go (each-below f k n each) (each n) (firstBelow f n) refl
-  where
-    go : (firstBelow f n ≡ 0) ⊎ (firstBelow f n ≡ k) → (f n ≡ 0) ⊎ (f n ≡ k) → (a : ℕ) → firstBelow f n ≡ a → (first a (f n) ≡ 0) ⊎ (first a (f n) ≡ k)
-    go (inl x) y a e = let z : a ≡ 0 = sym e ∙ x in rw z y
-    go (inr x) y zero e = y
-    go (inr x) y (suc a) e = inr (simp eqb·suc-zero (sym e ∙ x))
-
--- among numbers that are 0 or k, the first that is not 0 is k, if there is one
-one-number : (f : ℕ → ℕ) (k n j : ℕ) → ((j : ℕ) → (f j ≡ 0) ⊎ (f j ≡ k)) → (k ≡ 0 → ⊥) → j < n → f j ≡ k → firstBelow f n ≡ k
-unfolding firstBelow
-one-number f k zero j each z l e = absurd (omega arith)
-one-number f k (suc n) j each z l e = ⊎-elim
-    (λ i. go (each-below f k n each) (rw i at e))
-    (λ m. rw (one-number f k n j each z m e) (simp (ne-eqb _ _ z)))
-    (last-or n j l)
-  where
-    go : (firstBelow f n ≡ 0) ⊎ (firstBelow f n ≡ k) → f n ≡ k → first (firstBelow f n) (f n) ≡ k
-    go (inl a) b = rw (a, b)
-    go (inr a) b = rw a (simp (ne-eqb _ _ z))
+taken-six s i j = unless-or (cond (has (takes s i) j) (mayTake s i j) true) 6
 
 module _ (s : List ℕ) (i n : ℕ) (fits : takes s i < 2 ^ n) where
   pub passed-start : (row : ℕ) → row ≡ takes s i → Passed s i row
@@ -118,7 +96,7 @@ module _ (s : List ℕ) (i n : ℕ) (fits : takes s i < 2 ^ n) where
 
     pub taken-found : (k : ℕ) → Left s i rest → k ≡ takenNumber s i j → (k ≡ 0 → ⊥) → k ≡ firstBelow (takenNumber s i) n
     unfolding Left
-    taken-found k l e z = sym (one-number (takenNumber s i) k n j (λ x. ⊎-elim inl (λ a. inr (a ∙ sym six)) (taken-six s i x)) z (has-below n (takes s i) j fits (l j m)) (sym e))
+    taken-found k l e z = sym (one-number (takenNumber s i) k (λ x. ⊎-elim inl (λ a. inr (a ∙ sym six)) (taken-six s i x)) n j z (has-below n (takes s i) j fits (l j m)) (sym e))
       where
         six : k ≡ 6
         six = ⊎-elim (λ a. absurd (z (e ∙ a))) (λ a. e ∙ a) (taken-six s i j)

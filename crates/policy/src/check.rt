@@ -5,9 +5,12 @@ ghost use Prim.Native.Nat.{_+_, _^_, _<_, _≤_};
 ghost use lib.ListN.{length};
 ghost use Rattle.model.specs.Number.{firstBelow};
 ghost use Rattle.model.specs.Sets.{has};
-ghost use Rattle.model.specs.Policy.{roles, rowAt, takes, headNumber, principalNumber, ownerNumber, pairNumber, rowNumber, takenNumber, takesNumber, grantsNumber, policyNumber};
+ghost use Rattle.model.specs.Policy.{principals, roles, rowAt, takes, mayTake, headNumber, principalNumber, ownerNumber, rowNumber, takenNumber, takesNumber, grantsNumber, policyNumber};
+ghost use Rattle.policy.specs.Pairs.{Seen, SeenAfter};
+ghost use Rattle.policy.specs.Takable.{Takable};
 use super::bytes;
 use super::number;
+use super::pairs;
 use super::rows;
 use super::sets;
 
@@ -75,42 +78,11 @@ fn owner_number(s: &[u8], i: usize) -> u32
     number::ACCEPTED
 }
 
-// 5: row j does not have the owner and name of row i.
-fn pair_number(s: &[u8], i: usize, j: usize) -> u32
-    requires { ⌜ (rowAt i + 22 ≤ length (now s)) × (j < i) ⌝ }
-    ensures { λ r. ⌜ r ≡ pairNumber (now (s .entry)) i j ⌝ }
-{
-    let here = rows::HEAD_BYTES + rows::ROW_BYTES * i;
-    let there = rows::HEAD_BYTES + rows::ROW_BYTES * j;
-    if s[here] != s[there] {
-        return number::ACCEPTED;
-    }
-    if s[here + 1] != s[there + 1] {
-        return number::ACCEPTED;
-    }
-    number::ROW_OWNER
-}
-
-// 5: no earlier row has the owner and name of row i.
-fn pairs_number(s: &[u8], i: usize) -> u32
-    requires { ⌜ rowAt i + 22 ≤ length (now s) ⌝ }
-    ensures { λ r. ⌜ r ≡ firstBelow (pairNumber (now (s .entry)) i) i ⌝ }
-{
-    let mut j = 0;
-    while j < i {
-        let number = pair_number(s, i, j);
-        if number != number::ACCEPTED {
-            return number;
-        }
-        j += 1;
-    }
-    number::ACCEPTED
-}
-
 // Row i: 4 before 5.
-fn row_number(s: &[u8], i: usize) -> u32
-    requires { ⌜ rowAt i + 22 ≤ length (now s) ⌝ }
-    ensures { λ r. ⌜ r ≡ rowNumber (now (s .entry)) i ⌝ }
+fn row_number(s: &[u8], i: usize, seen: &mut [u64]) -> u32
+    requires { ⌜ (rowAt i + 22 ≤ length (now s)) × (principals (now s) ≤ 32) × Seen (now s) (now seen) i ⌝ }
+    ensures number { λ r. ⌜ r ≡ rowNumber (now (s .entry)) i ⌝ }
+    ensures now_seen { λ r. ⌜ SeenAfter r (now (s .entry)) (now (seen .exit)) i ⌝ }
 {
     let principal = principal_number(s, i);
     if principal != number::ACCEPTED {
@@ -120,17 +92,17 @@ fn row_number(s: &[u8], i: usize) -> u32
     if owner != number::ACCEPTED {
         return owner;
     }
-    pairs_number(s, i)
+    pairs::pairs_number(s, i, seen)
 }
 
-// 4 and 5 of the first n rows, row by row.
-fn rows_number(s: &[u8], n: usize) -> u32
-    requires { ⌜ rowAt n ≤ length (now s) ⌝ }
+// 4 and 5 of the first n rows, row by row, with room for the pairs that were seen.
+fn each_row_number(s: &[u8], n: usize, seen: &mut [u64]) -> u32
+    requires { ⌜ (rowAt n ≤ length (now s)) × (principals (now s) ≤ 32) × Seen (now s) (now seen) 0 ⌝ }
     ensures { λ r. ⌜ r ≡ firstBelow (rowNumber (now (s .entry))) n ⌝ }
 {
     let mut i = 0;
     while i < n {
-        let number = row_number(s, i);
+        let number = row_number(s, i, seen);
         if number != number::ACCEPTED {
             return number;
         }
@@ -139,18 +111,35 @@ fn rows_number(s: &[u8], n: usize) -> u32
     number::ACCEPTED
 }
 
+// 4 and 5 of the first n rows.
+fn rows_number(s: &[u8], n: usize) -> u32
+    requires { ⌜ (rowAt n ≤ length (now s)) × (principals (now s) ≤ 32) ⌝ }
+    ensures { λ r. ⌜ r ≡ firstBelow (rowNumber (now (s .entry))) n ⌝ }
+{
+    let mut seen = [0u64; 128];
+    each_row_number(s, n, &mut seen)
+}
+
+// Whether row i may take in role j: both have the same viewers and trusters.
+fn may_take(s: &[u8], i: usize, j: usize) -> bool
+    requires { ⌜ (rowAt i + 22 ≤ length (now s)) × (rowAt j + 22 ≤ length (now s)) ⌝ }
+    ensures { λ r. ⌜ r ≡ mayTake (now (s .entry)) i j ⌝ }
+{
+    if rows::viewers_of(s, i) != rows::viewers_of(s, j) {
+        return false;
+    }
+    rows::trusters_of(s, i) == rows::trusters_of(s, j)
+}
+
 // 6: row i, which takes role j, may take it in.
 fn taken_number(s: &[u8], i: usize, j: usize) -> u32
     requires { ⌜ (rowAt i + 22 ≤ length (now s)) × (rowAt j + 22 ≤ length (now s)) × (has (takes (now s) i) j ≡ true) ⌝ }
     ensures { λ r. ⌜ r ≡ takenNumber (now (s .entry)) i j ⌝ }
 {
-    if rows::viewers_of(s, i) != rows::viewers_of(s, j) {
-        return number::ROW_GRANTS;
+    if may_take(s, i, j) {
+        return number::ACCEPTED;
     }
-    if rows::trusters_of(s, i) != rows::trusters_of(s, j) {
-        return number::ROW_GRANTS;
-    }
-    number::ACCEPTED
+    number::ROW_GRANTS
 }
 
 // 6: row i takes in only roles that it may. Only those that it takes are visited.
@@ -170,20 +159,24 @@ fn each_taken_number(s: &[u8], i: usize, n: usize) -> u32
     number::ACCEPTED
 }
 
-// 6: row i takes in only roles that there are, and that it may.
-fn takes_number(s: &[u8], i: usize, n: usize) -> u32
-    requires { ⌜ (rowAt n ≤ length (now s)) × (i < n) ⌝ }
+// 6: row i takes in only roles that there are, and that it may. Those that it is known to may are not visited.
+fn takes_number(s: &[u8], i: usize, n: usize, known: u64) -> u32
+    requires { ⌜ (rowAt n ≤ length (now s)) × (i < n) × Takable (now s) i known ⌝ }
     ensures { λ r. ⌜ r ≡ takesNumber (now (s .entry)) i n ⌝ }
 {
-    if !sets::all_below(rows::takes_of(s, i), n as u64) {
+    let takes = rows::takes_of(s, i);
+    if !sets::all_below(takes, n as u64) {
         return number::ROW_GRANTS;
+    }
+    if sets::subset(takes, known) {
+        return number::ACCEPTED;
     }
     each_taken_number(s, i, n)
 }
 
 // 6: members of row i are its viewers and trusters; it takes in only roles that there are and that it may.
-fn grants_number(s: &[u8], i: usize, n: usize) -> u32
-    requires { ⌜ (rowAt n ≤ length (now s)) × (i < n) × (n ≡ roles (now s)) ⌝ }
+fn grants_number(s: &[u8], i: usize, n: usize, known: u64) -> u32
+    requires { ⌜ (rowAt n ≤ length (now s)) × (i < n) × (n ≡ roles (now s)) × Takable (now s) i known ⌝ }
     ensures { λ r. ⌜ r ≡ grantsNumber (now (s .entry)) i ⌝ }
 {
     let members = rows::members_of(s, i) as u64;
@@ -193,20 +186,36 @@ fn grants_number(s: &[u8], i: usize, n: usize) -> u32
     if !sets::subset(members, rows::trusters_of(s, i) as u64) {
         return number::ROW_GRANTS;
     }
-    takes_number(s, i, n)
+    takes_number(s, i, n, known)
 }
 
-// 6 of all rows.
+// Of roles that row k may take in, those that row i may too: all of them where it may take in row k, else none is known.
+fn known_too(s: &[u8], i: usize, k: usize, known: u64) -> u64
+    requires { ⌜ (rowAt i + 22 ≤ length (now s)) × (rowAt k + 22 ≤ length (now s)) × Takable (now s) k known ⌝ }
+    ensures { λ r. ⌜ Takable (now (s .entry)) i r ⌝ }
+{
+    if may_take(s, i, k) {
+        return known;
+    }
+    0
+}
+
+// 6 of all rows. Where many rows of the same viewers and trusters take in the same roles, these are visited once.
 fn all_grants_number(s: &[u8], n: usize) -> u32
     requires { ⌜ (rowAt n ≤ length (now s)) × (n ≡ roles (now s)) ⌝ }
     ensures { λ r. ⌜ r ≡ firstBelow (grantsNumber (now (s .entry))) n ⌝ }
 {
+    let mut known = 0;
+    let mut last = 0;
     let mut i = 0;
     while i < n {
-        let number = grants_number(s, i, n);
+        known = known_too(s, i, last, known);
+        let number = grants_number(s, i, n, known);
         if number != number::ACCEPTED {
             return number;
         }
+        known = known | rows::takes_of(s, i);
+        last = i;
         i += 1;
     }
     number::ACCEPTED

@@ -3,5 +3,6 @@ pub mod bytes;
 pub mod check;
 pub mod meaning;
 pub mod number;
+mod pairs;
 pub mod rows;
 pub mod sets;

@@ -1,20 +1,23 @@
 use Rattle.model.specs.Policy.{grantsNumber}
 use Rattle.model.specs.Number.{firstBelow}
+use Rattle.policy.specs.Takable.{Takable}
 use Prim.Native.Nat.{_≤_, _-_}
 use mathlib.Core.Path.{_≡_}
-use Rattle.policy.proofs.CheckLaws.{loops}
+use Rattle.policy.proofs.CheckLaws.{loops, known-laws}
 use borrow.Author.Needs.{needs}
 use Rattle.policy.proofs.check.all_grants_number.Statement.{statement}
 use Rattle.policy.proofs.check.all_grants_number.Tie as tie
 use Rattle.policy.proofs.check.all_grants_number.Reads as reads
 use Rattle.policy.proofs.check.all_grants_number.Lts as lts
 use Rattle.policy.proofs.check.grants_number.Reads as grants-number-reads
+use Rattle.policy.proofs.check.known_too.Reads as known-too-reads
+use Rattle.policy.proofs.rows.takes_of.Reads as takes-of-reads
 
 abbrev Inv-loop : tie.InvT-loop
-Inv-loop s n i₀ i = (i ≤ n) × (firstBelow (grantsNumber s) i ≡ 0)
+Inv-loop s n known₀ last₀ i₀ known last i = (i ≤ n) × (last ≤ i) × (firstBelow (grantsNumber s) i ≡ 0) × Takable s last known
 
 abbrev μ-loop : tie.MeasureT-loop
-μ-loop s n i₀ i = n - i
+μ-loop s n known₀ last₀ i₀ known last i = n - i
 
 pub all-grants-number-spec : {M : Type 1} → statement M
 all-grants-number-spec =
@@ -22,10 +25,12 @@ all-grants-number-spec =
     (tie.spec
     Inv-loop
     μ-loop
-    (λ c. search (needs, loops))
-    (λ c κs. search needs)
-    (λ c. search (needs, loops))
-    (λ c. search needs)
-    (λ c. search needs)
-    (λ c. search (needs, loops))
-    (λ c. search (needs, loops)))
+    (λ c. search (needs, loops, known-laws))
+    (λ c κs. search (needs, loops, known-laws))
+    (λ c κs. search (needs, loops, known-laws))
+    (λ c. search (needs, loops, known-laws))
+    (λ c κs. search (needs, loops, known-laws))
+    (λ c. search (needs, loops, known-laws))
+    (λ c. search (needs, loops, known-laws))
+    (λ c. search (needs, loops, known-laws))
+    (λ c. search (needs, loops, known-laws)))

@@ -1,20 +1,22 @@
 use Rattle.policy.proofs.CheckLaws.{row-laws}
+use Rattle.policy.proofs.PairLaws.{seen-laws}
 use borrow.Author.Needs.{needs}
 use Rattle.policy.proofs.check.row_number.Statement.{statement}
 use Rattle.policy.proofs.check.row_number.Tie as tie
 use Rattle.policy.proofs.check.row_number.Reads as reads
 use Rattle.policy.proofs.check.row_number.Lts as lts
 use Rattle.policy.proofs.check.owner_number.Reads as owner-number-reads
-use Rattle.policy.proofs.check.pairs_number.Reads as pairs-number-reads
 use Rattle.policy.proofs.check.principal_number.Reads as principal-number-reads
+use Rattle.policy.proofs.pairs.pairs_number.Reads as pairs-number-reads
 
 pub row-number-spec : {M : Type 1} → statement M
 row-number-spec =
     tie.close
     (tie.spec
-    (λ c κs. search needs)
-    (λ c. search (needs, row-laws))
-    (λ c κs. search needs)
-    (λ c. search (needs, row-laws))
-    (λ c κs. search needs)
-    (λ c. search (needs, row-laws)))
+    (λ c κs. search (needs, row-laws, seen-laws))
+    (λ c. search (needs, row-laws, seen-laws))
+    (λ c κs. search (needs, row-laws, seen-laws))
+    (λ c. search (needs, row-laws, seen-laws))
+    (λ c κs. search (needs, row-laws, seen-laws))
+    (λ c. search (needs, row-laws, seen-laws))
+    (λ c. search (needs, row-laws, seen-laws)))

@@ -7,12 +7,16 @@ use Rattle.policy.proofs.check.takes_number.Lts as lts
 use Rattle.policy.proofs.check.each_taken_number.Reads as each-taken-number-reads
 use Rattle.policy.proofs.rows.takes_of.Reads as takes-of-reads
 use Rattle.policy.proofs.sets.all_below.Reads as all-below-reads
-
--- src/check.rt:181:5
-each-taken-number-requires : tie.Need-each-taken-number-requires
-each-taken-number-requires c κs = (search needs, search needs, search row-takes)
+use Rattle.policy.proofs.sets.subset.Reads as subset-reads
 
 pub takes-number-spec : {M : Type 1} → statement M
 takes-number-spec =
     tie.close
-    (tie.spec (λ c κs. search (needs, row-takes)) (λ c κs. search (needs, row-takes)) (λ c. search (needs, row-takes)) each-taken-number-requires (λ c. search (needs, row-takes)))
+    (tie.spec
+    (λ c κs. search (needs, row-takes))
+    (λ c κs. search (needs, row-takes))
+    (λ c. search (needs, row-takes))
+    (λ c κs. search (needs, row-takes))
+    (λ c. search (needs, row-takes))
+    (λ c κs. search (needs, row-takes))
+    (λ c. search (needs, row-takes)))
