@@ -10,9 +10,8 @@ use lib.Bits.{bitOr, or-zero-l, or-zero-r}
 use lib.ListN.{length}
 use borrow.Author.Tests.{le-leb, ltb-true, eq-eqb, ne-eqb, not-true, not-false}
 use Rattle.model.specs.Number.{programRange}
-use Rattle.model.specs.Sets.{has}
 use Rattle.model.specs.Bytes.{byte}
-use Rattle.model.specs.Policy.{reading, trust, Accepted, principals, roles, rowAt, viewers, trusters, mayHold, mayTake}
+use Rattle.model.specs.Policy.{reading, trust, Accepted, principals, roles, rowAt, mayHold, mayTake}
 use Rattle.model.specs.Mutation.{Kind, addMember, deleteMember, addTaken, deleteTaken, Mutation, allowed}
 use Rattle.model.specs.Syntax.{of, Atom, role, fixed, atomByte, Query}
 use Rattle.model.specs.Program.{Read, got, bad, readByte, readBelow, atomAt, readAtom, readQuery, mutationAt, readMutation}
@@ -172,27 +171,19 @@ module _ (s : List ℕ) (ok : Accepted s) where
 
 pub ruleset insides = (head-inside, row-inside)
 
--- whether role i may hold the principal x: the code has both as wider numbers, and v and t for its viewers and trusters
+-- whether role i may hold the principal x, which the code has as wider numbers j and y
 module _ (s : List ℕ) (i x : ℕ) where
   pub hold-none : roles s ≤ i → HoldsRight s i x false
   unfolding HoldsRight
   hold-none h l = absurd (omega arith)
 
-  module _ (j y v : ℕ) (a : Bool) (e : j ≡ i) (f : y ≡ x) (g : v ≡ viewers s j) (h : a ≡ has v y) where
-    views : has (viewers s i) x ≡ a
-    views = rw (← e, ← f, ← g) (sym h)
+  pub hold-is : (j y : ℕ) (r : Bool) → j ≡ i → y ≡ x → r ≡ mayHold s j y → HoldsRight s i x r
+  unfolding HoldsRight
+  hold-is j y r e f h l = rw (e, f) at h
 
-    pub hold-hidden : a ≡ false → HoldsRight s i x false
-    unfolding HoldsRight mayHold
-    hold-hidden k l = simp (views ∙ k)
+pub ruleset holds-laws = (hold-none, hold-is)
 
-    pub hold-seen : (t : ℕ) (b : Bool) → a ≡ true → t ≡ trusters s j → b ≡ has t y → HoldsRight s i x b
-    unfolding HoldsRight mayHold
-    hold-seen t b k m n l = let q : has (trusters s i) x ≡ b = rw (← e, ← f, ← m) (sym n) in simp (views ∙ k, q)
-
-pub ruleset holds-laws = (hold-none, hold-hidden, hold-seen, not-true, not-false)
-
--- whether role i may take in role j
+-- whether role i may take in role j, which the code has as wider numbers a and b
 module _ (s : List ℕ) (i j : ℕ) where
   pub take-none : roles s ≤ i → TakesRight s i j false
   unfolding TakesRight
@@ -202,19 +193,11 @@ module _ (s : List ℕ) (i j : ℕ) where
   unfolding TakesRight
   take-no-other h l m = absurd (omega arith)
 
-  module _ (a b v w : ℕ) (e : a ≡ i) (f : b ≡ j) (g : v ≡ viewers s a) (h : w ≡ viewers s b) where
-    pub take-hidden : (v ≡ w → ⊥) → TakesRight s i j false
-    unfolding TakesRight mayTake
-    take-hidden k l m = let n : viewers s i ≡ viewers s j → ⊥ = λ z. k (cc) in simp (ne-eqb _ _ n)
+  pub take-is : (a b : ℕ) (r : Bool) → a ≡ i → b ≡ j → r ≡ mayTake s a b → TakesRight s i j r
+  unfolding TakesRight
+  take-is a b r e f h l m = rw (e, f) at h
 
-    pub take-seen : (t u : ℕ) → v ≡ w → t ≡ trusters s a → u ≡ trusters s b → TakesRight s i j (eqb t u)
-    unfolding TakesRight mayTake
-    take-seen t u k c d l m =
-        let n : viewers s i ≡ viewers s j = cc in
-        let q : eqb (trusters s i) (trusters s j) ≡ eqb t u = rw (c, d, e, f) in
-        simp (eq-eqb _ _ n, q)
-
-pub ruleset takes-laws = (take-none, take-no-other, take-hidden, take-seen)
+pub ruleset takes-laws = (take-none, take-no-other, take-is)
 
 -- a taken role that was read is one that there is
 taken-fits : (p : List ℕ) (P R at : ℕ) {m : Mutation} {end : ℕ} → readMutation p P R at ≡ got m end → byte p at ≡ 2 → m .operand < R

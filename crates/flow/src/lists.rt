@@ -4,7 +4,6 @@ ghost use Rattle.model.specs.Policy.{Accepted};
 ghost use Rattle.flow.specs.Lists.{PairAt, ListedAt, NamedRoles, PairRolesAt, ListRolesAt, HoldsRight, TakesRight, OneAllowedAt, AllowedAt};
 use policy::bytes;
 use policy::rows;
-use policy::sets;
 use walk::positions;
 
 // Whether the pair that stands at `at` has these bytes.
@@ -65,7 +64,7 @@ pub fn list_roles(p: &[u8], n: u8, at: usize) -> u64
     found
 }
 
-// Whether a role may have the principal as a member: it is viewer and truster both.
+// Whether a role that there is may have the principal as a member.
 fn may_hold(policy: &[u8], role: u8, principal: u8) -> bool
     requires { ⌜ Accepted (now policy) ⌝ }
     ensures { λ r. ⌜ HoldsRight (now (policy .entry)) role principal r ⌝ }
@@ -73,15 +72,14 @@ fn may_hold(policy: &[u8], role: u8, principal: u8) -> bool
     if policy[6] <= role {
         return false;
     }
-    let i = bytes::wide(role) as usize;
-    let x = bytes::wide(principal) as u64;
-    if !sets::contains(rows::viewers_of(policy, i) as u64, x) {
-        return false;
-    }
-    sets::contains(rows::trusters_of(policy, i) as u64, x)
+    rows::may_hold(
+        policy,
+        bytes::wide(role) as usize,
+        bytes::wide(principal) as u64,
+    )
 }
 
-// Whether a role may take in another: both have the same viewers and trusters.
+// Whether a role that there is may take in another.
 fn may_take(policy: &[u8], role: u8, other: u8) -> bool
     requires { ⌜ Accepted (now policy) ⌝ }
     ensures { λ r. ⌜ TakesRight (now (policy .entry)) role other r ⌝ }
@@ -92,12 +90,11 @@ fn may_take(policy: &[u8], role: u8, other: u8) -> bool
     if policy[6] <= other {
         return false;
     }
-    let i = bytes::wide(role) as usize;
-    let j = bytes::wide(other) as usize;
-    if rows::viewers_of(policy, i) != rows::viewers_of(policy, j) {
-        return false;
-    }
-    rows::trusters_of(policy, i) == rows::trusters_of(policy, j)
+    rows::may_take(
+        policy,
+        bytes::wide(role) as usize,
+        bytes::wide(other) as usize,
+    )
 }
 
 // Whether the policy file allows the mutation that stands at `at`: kind, role, operand. A deletion is always allowed.

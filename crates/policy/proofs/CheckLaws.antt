@@ -3,17 +3,17 @@ use mathlib.Core.Path.{_≡_, refl, sym, _∙_}
 use Prim.Native.Nat.{ℕ, zero, suc, _+_, _*_, _-_, _^_, _<_, _≤_}
 use mathlib.Core.List.{List}
 use mathlib.Core.Logic.{⊎-elim}
-use mathlib.Core.Bool.{Bool, true, false, true≢false}
+use mathlib.Core.Bool.{Bool, true, false, _&&_, true≢false}
 use native.Mathlib.Omega.{arith}
 use native.Mathlib.Numerals.{add-one}
 use lib.Dec.{eqb, ltb}
 use lib.Bits.{bitOr}
 use lib.ListN.{length}
 use borrow.Author.Tests.{lt-ltb, le-ltb, le-leb, lt-leb, eq-eqb, ne-eqb, ltb-true, eqb-true, not-true, not-false}
-use Rattle.model.specs.Number.{first, firstBelow}
+use Rattle.model.specs.Number.{unless, first, firstBelow}
 use Rattle.model.specs.Sets.{has, within}
 use Rattle.model.specs.Bytes.{startsWith}
-use Rattle.model.specs.Policy.{policyHead, principals, roles, rowAt, owner, name, viewers, trusters, members, takes, mayTake, headNumber, principalNumber, ownerNumber, pairNumber, rowNumber, takenNumber, takesNumber, grantsNumber, policyNumber}
+use Rattle.model.specs.Policy.{policyHead, principals, roles, rowAt, owner, viewers, trusters, members, takes, mayTake, mayHold, headNumber, principalNumber, ownerNumber, pairNumber, rowNumber, takenNumber, takesNumber, grantsNumber, policyNumber}
 use Rattle.model.proofs.Number.{zero-below}
 use Rattle.model.proofs.Truth.{both}
 use Rattle.model.proofs.Sets.{has-zero, or-has, within-has, has-below}
@@ -93,28 +93,23 @@ module _ (s : List ℕ) (i : ℕ) where
 
 pub ruleset principal-laws = (owner-large, viewers-large, trusters-large, members-large, principals-right, not-true, not-false)
 
--- 5 of row i: its owner
-module _ (s : List ℕ) (i o v : ℕ) (a : Bool) (p : o ≡ owner s i) (q : v ≡ viewers s i) (d : a ≡ has v o) where
-  views : has (viewers s i) (owner s i) ≡ a
-  views = rw (← p, ← q) (sym d)
+-- 5 of row i: its owner o is viewer and truster
+owner-holds : (s : List ℕ) (i : ℕ) → unless (mayHold s i (owner s i)) 5 0 ≡ ownerNumber s i
+unfolding mayHold ownerNumber
+owner-holds s i = go (has (viewers s i) (owner s i)) (has (trusters s i) (owner s i))
+  where
+    go : (a b : Bool) → unless (a && b) 5 0 ≡ unless a 5 (unless b 5 0)
+    go true b = refl
+    go false b = refl
 
-  pub owner-hidden : a ≡ false → 5 ≡ ownerNumber s i
-  unfolding ownerNumber
-  owner-hidden f = simp (views ∙ f)
+module _ (s : List ℕ) (i o : ℕ) (b : Bool) (p : o ≡ owner s i) (d : b ≡ mayHold s i o) where
+  pub owner-right : b ≡ true → 0 ≡ ownerNumber s i
+  owner-right f = let g : mayHold s i (owner s i) ≡ true = rw (← p) (sym d ∙ f) in rw g at (owner-holds s i)
 
-  module _ (t : a ≡ true) (w : ℕ) (b : Bool) (j : w ≡ trusters s i) (e : b ≡ has w o) where
-    trusts : has (trusters s i) (owner s i) ≡ b
-    trusts = rw (← p, ← j) (sym e)
+  pub owner-wrong : b ≡ false → 5 ≡ ownerNumber s i
+  owner-wrong f = let g : mayHold s i (owner s i) ≡ false = rw (← p) (sym d ∙ f) in rw g at (owner-holds s i)
 
-    pub owner-distrusted : b ≡ false → 5 ≡ ownerNumber s i
-    unfolding ownerNumber
-    owner-distrusted f = simp (views ∙ t, trusts ∙ f)
-
-    pub owner-right : b ≡ true → 0 ≡ ownerNumber s i
-    unfolding ownerNumber
-    owner-right f = simp (views ∙ t, trusts ∙ f)
-
-pub ruleset owner-laws = (owner-hidden, owner-distrusted, owner-right, not-true, not-false)
+pub ruleset owner-laws = (owner-right, owner-wrong)
 
 -- a loop that looks for the first number that is not 0
 module _ (f : ℕ → ℕ) where

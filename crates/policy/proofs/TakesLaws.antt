@@ -1,18 +1,16 @@
 -- The roles that a row takes are looked at one after the other, lowest first: what is no longer left is right.
 use mathlib.Core.Path.{_≡_, refl, sym, _∙_}
 use mathlib.Core.Logic.{_⊎_, inl, inr, ⊎-elim}
-use Prim.Native.Nat.{ℕ, zero, suc, _+_, _^_, _<_, _≤_}
+use Prim.Native.Nat.{ℕ, _+_, _^_, _<_, _≤_}
 use mathlib.Core.List.{List}
 use mathlib.Core.Bool.{Bool, true, false, true≢false, cond}
 use native.Mathlib.Omega.{arith}
 use native.Mathlib.Decide.{ℕ-discrete}
-use lib.Dec.{eqb}
 use lib.Pow.{pow-pos}
 use lib.ListN.{length}
-use borrow.Author.Tests.{eq-eqb, ne-eqb}
-use Rattle.model.specs.Number.{unless, first, firstBelow}
+use Rattle.model.specs.Number.{firstBelow}
 use Rattle.model.specs.Sets.{has, without}
-use Rattle.model.specs.Policy.{rowAt, viewers, trusters, takes, mayTake, takenNumber}
+use Rattle.model.specs.Policy.{rowAt, takes, mayTake, takenNumber}
 use Rattle.model.proofs.Number.{unless-or, zero-below, one-number}
 use Rattle.model.proofs.Sets.{has-zero, has-below, has-without, without-has}
 use Rattle.policy.proofs.SetLaws.{held-power, next-without}
@@ -25,18 +23,7 @@ same-or x j = go (ℕ-discrete x j)
     go (yes e) = inl e
     go (no k) = inr k
 
--- 6 of row i: whether it may take in role j; v, w and t, u are the viewers and trusters of both rows
-module _ (s : List ℕ) (i j v w : ℕ) (q : v ≡ viewers s i) (e : w ≡ viewers s j) where
-  pub viewers-differ : (v ≡ w → ⊥) → false ≡ mayTake s i j
-  unfolding mayTake
-  viewers-differ h = let k : viewers s i ≡ viewers s j → ⊥ = λ x. h (q ∙ x ∙ sym e) in simp (ne-eqb _ _ k)
-
-  pub trusters-decide : v ≡ w → (t u : ℕ) → t ≡ trusters s i → u ≡ trusters s j → eqb t u ≡ mayTake s i j
-  unfolding mayTake
-  trusters-decide h t u x y = rw (x, y) (simp (eq-eqb _ _ (sym q ∙ h ∙ e)))
-
-pub ruleset may-laws = (viewers-differ, trusters-decide)
-
+-- 6 of row i: one role that it takes
 module _ (s : List ℕ) (i j : ℕ) (b : Bool) (g : has (takes s i) j ≡ true) (e : b ≡ mayTake s i j) where
   pub taken-right : b ≡ true → 0 ≡ takenNumber s i j
   unfolding takenNumber

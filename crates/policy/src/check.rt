@@ -5,7 +5,7 @@ ghost use Prim.Native.Nat.{_+_, _^_, _<_, _≤_};
 ghost use lib.ListN.{length};
 ghost use Rattle.model.specs.Number.{firstBelow};
 ghost use Rattle.model.specs.Sets.{has};
-ghost use Rattle.model.specs.Policy.{principals, roles, rowAt, takes, mayTake, headNumber, principalNumber, ownerNumber, rowNumber, takenNumber, takesNumber, grantsNumber, policyNumber};
+ghost use Rattle.model.specs.Policy.{principals, roles, rowAt, takes, headNumber, principalNumber, ownerNumber, rowNumber, takenNumber, takesNumber, grantsNumber, policyNumber};
 ghost use Rattle.policy.specs.Pairs.{Seen, SeenAfter};
 ghost use Rattle.policy.specs.Takable.{Takable};
 use super::bytes;
@@ -69,13 +69,10 @@ fn owner_number(s: &[u8], i: usize) -> u32
     ensures { λ r. ⌜ r ≡ ownerNumber (now (s .entry)) i ⌝ }
 {
     let owner = bytes::wide(s[rows::HEAD_BYTES + rows::ROW_BYTES * i]) as u64;
-    if !sets::contains(rows::viewers_of(s, i) as u64, owner) {
-        return number::ROW_OWNER;
+    if rows::may_hold(s, i, owner) {
+        return number::ACCEPTED;
     }
-    if !sets::contains(rows::trusters_of(s, i) as u64, owner) {
-        return number::ROW_OWNER;
-    }
-    number::ACCEPTED
+    number::ROW_OWNER
 }
 
 // Row i: 4 before 5.
@@ -120,23 +117,12 @@ fn rows_number(s: &[u8], n: usize) -> u32
     each_row_number(s, n, &mut seen)
 }
 
-// Whether row i may take in role j: both have the same viewers and trusters.
-fn may_take(s: &[u8], i: usize, j: usize) -> bool
-    requires { ⌜ (rowAt i + 22 ≤ length (now s)) × (rowAt j + 22 ≤ length (now s)) ⌝ }
-    ensures { λ r. ⌜ r ≡ mayTake (now (s .entry)) i j ⌝ }
-{
-    if rows::viewers_of(s, i) != rows::viewers_of(s, j) {
-        return false;
-    }
-    rows::trusters_of(s, i) == rows::trusters_of(s, j)
-}
-
 // 6: row i, which takes role j, may take it in.
 fn taken_number(s: &[u8], i: usize, j: usize) -> u32
     requires { ⌜ (rowAt i + 22 ≤ length (now s)) × (rowAt j + 22 ≤ length (now s)) × (has (takes (now s) i) j ≡ true) ⌝ }
     ensures { λ r. ⌜ r ≡ takenNumber (now (s .entry)) i j ⌝ }
 {
-    if may_take(s, i, j) {
+    if rows::may_take(s, i, j) {
         return number::ACCEPTED;
     }
     number::ROW_GRANTS
@@ -194,7 +180,7 @@ fn known_too(s: &[u8], i: usize, k: usize, known: u64) -> u64
     requires { ⌜ (rowAt i + 22 ≤ length (now s)) × (rowAt k + 22 ≤ length (now s)) × Takable (now s) k known ⌝ }
     ensures { λ r. ⌜ Takable (now (s .entry)) i r ⌝ }
 {
-    if may_take(s, i, k) {
+    if rows::may_take(s, i, k) {
         return known;
     }
     0

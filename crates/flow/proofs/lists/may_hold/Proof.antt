@@ -5,25 +5,17 @@ use Rattle.flow.proofs.lists.may_hold.Tie as tie
 use Rattle.flow.proofs.lists.may_hold.Reads as reads
 use Rattle.flow.proofs.lists.may_hold.Lts as lts
 use Rattle.policy.proofs.bytes.wide.Reads as wide-reads
-use Rattle.policy.proofs.rows.trusters_of.Reads as trusters-of-reads
-use Rattle.policy.proofs.rows.viewers_of.Reads as viewers-of-reads
-use Rattle.policy.proofs.sets.contains.Reads as contains-reads
+use Rattle.policy.proofs.rows.may_hold.Reads as may-hold-reads
 
 pub may-hold-spec : {M : Type 1} → statement M
 may-hold-spec =
     tie.close
     (tie.spec
-    (λ c. search (needs, insides))
-    (λ c. search (needs, holds-laws))
-    (λ c κs. search needs)
-    (λ c. search needs)
-    (λ c κs. search needs)
-    (λ c. search needs)
-    (λ c κs. search (needs, insides))
-    (λ c. search needs)
-    (λ c κs. search needs)
-    (λ c. search (needs, holds-laws))
-    (λ c κs. search (needs, insides))
-    (λ c. search needs)
-    (λ c κs. search needs)
-    (λ c. search (needs, holds-laws)))
+    (λ c. search (needs, insides, holds-laws))
+    (λ c. search (needs, insides, holds-laws))
+    (λ c κs. search (needs, insides, holds-laws))
+    (λ c. search (needs, insides, holds-laws))
+    (λ c κs. search (needs, insides, holds-laws))
+    (λ c. search (needs, insides, holds-laws))
+    (λ c κs. search (needs, insides, holds-laws))
+    (λ c. search (needs, insides, holds-laws)))

@@ -5,25 +5,17 @@ use Rattle.policy.proofs.check.owner_number.Tie as tie
 use Rattle.policy.proofs.check.owner_number.Reads as reads
 use Rattle.policy.proofs.check.owner_number.Lts as lts
 use Rattle.policy.proofs.bytes.wide.Reads as wide-reads
-use Rattle.policy.proofs.rows.trusters_of.Reads as trusters-of-reads
-use Rattle.policy.proofs.rows.viewers_of.Reads as viewers-of-reads
-use Rattle.policy.proofs.sets.contains.Reads as contains-reads
+use Rattle.policy.proofs.rows.may_hold.Reads as may-hold-reads
 
 pub owner-number-spec : {M : Type 1} → statement M
 owner-number-spec =
     tie.close
     (tie.spec
-    (λ c. search needs)
-    (λ c. search needs)
-    (λ c. search needs)
-    (λ c κs. search needs)
-    (λ c. search needs)
-    (λ c κs. search needs)
-    (λ c. search needs)
-    (λ c κs. search needs)
     (λ c. search (needs, owner-laws))
-    (λ c κs. search needs)
-    (λ c. search needs)
-    (λ c κs. search needs)
+    (λ c. search (needs, owner-laws))
+    (λ c. search (needs, owner-laws))
+    (λ c κs. search (needs, owner-laws))
+    (λ c. search (needs, owner-laws))
+    (λ c κs. search (needs, owner-laws))
     (λ c. search (needs, owner-laws))
     (λ c. search (needs, owner-laws)))
