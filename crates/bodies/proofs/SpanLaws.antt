@@ -11,7 +11,7 @@ use Rattle.model.specs.Flow.{part, bodies, programVerdict, transactionPart}
 use Rattle.model.specs.Calls.{partBytes}
 use Rattle.model.proofs.Accepted.{accepted-facts}
 use Rattle.model.proofs.FlowParts.{accepted-program}
-use Rattle.model.proofs.Bodies.{PartWithin, each-at, program-body, program-bodies, transaction-is}
+use Rattle.model.proofs.Bodies.{PartWithin, each-at, program-parts, program-bodies, transaction-is}
 use Rattle.walk.specs.declared.bodies.Found.{Found}
 use Rattle.walk.specs.Bodies.{foundOf, FoundAt}
 use Rattle.walk.proofs.BodyLaws.{found-part}
@@ -28,9 +28,9 @@ module _ (s p : List ℕ) (k : ℕ) (h : programVerdict s p ≡ fine) where
     unfolding FoundAt
     span-is =
         let a = accepted-program s p h in
-        let b = program-body p (principals s) (roles s) (a .is-read) in
+        let b = program-parts p (principals s) (roles s) (a .is-read) in
         let few = accepted-facts s (a .policy) .roles-fit in
-        let e : f ≡ foundOf (bodies (a .body)) k (a .end) = g (omega arith, omega arith) (a .body) (a .end) (rw (w, eP, eR, eV) (b .0)) in
+        let e : f ≡ foundOf (bodies (a .body)) k (a .end) = g (omega arith, omega arith) (a .body) (a .end) (rw (w, eP, eR, eV) (b .body-read)) in
         rw e (found-part (bodies (a .body)) k (a .end)) ∙ sym (transaction-is s p k h (a .is-read))
 
     pub span-inside : f .start + f .size ≤ length p

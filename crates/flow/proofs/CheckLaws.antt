@@ -9,7 +9,7 @@ use mathlib.Core.List.{List, [], _∷_, _++_, List·Memᴰ·head, List·Memᴰ·
 use mathlib.Core.Bool.{Bool, true, false, and-comm, true≢false}
 use lib.ListN.{length}
 use lib.Bits.{bitOr}
-use borrow.Author.Tests.{le-leb, ne-eqb}
+use borrow.Author.Tests.{ne-eqb}
 use Rattle.model.specs.Number.{Verdict, fine, refused, require, orElse}
 use Rattle.model.specs.Bytes.{byte}
 use Rattle.model.specs.Policy.{Side, reading, trust, principals, roles, Accepted}
@@ -28,6 +28,7 @@ use Rattle.walk.specs.declared.writes.Writes.{Writes}
 use Rattle.walk.specs.Positions.{ahead, afterList}
 use Rattle.walk.specs.Labels.{LabelsRight, exprLabels, LabelsAt}
 use Rattle.walk.specs.Writes.{stmtWrites, WritesAt}
+use Rattle.walk.proofs.PositionLaws.{ahead-is}
 use Rattle.walk.proofs.Readings.{many-none, many-more, mutations-end, stmt-deep, stmt-there, other-parts, assign-parts, block-parts, if-parts, while-parts, branch-parts, update-parts, transaction-parts}
 use Rattle.flow.specs.declared.context.Context.{Context}
 use Rattle.flow.specs.declared.check.Sizes.{Sizes}
@@ -41,10 +42,6 @@ use Rattle.flow.specs.Check.{checkedOf, checkedNumber, Inside, AroundIs,
 use Rattle.flow.proofs.ContextLaws.{context-expr, context-query, context-list}
 
 -- positions inside the bytes
-ahead-is : (p : List ℕ) (at n : ℕ) → at + n ≤ length p → ahead p at n ≡ at + n
-unfolding ahead
-ahead-is p at n h = rw (le-leb (at + n) (length p) h)
-
 list-is : (p : List ℕ) (at size : ℕ) → at + 2 + size * byte p (at + 1) ≤ length p → afterList p at size ≡ at + 2 + size * byte p (at + 1)
 unfolding afterList
 list-is p at size h =

@@ -8,27 +8,23 @@ use native.Mathlib.Omega.{arith}
 use lib.Dec.{eqb, ltb}
 use lib.Bits.{bitOr, or-zero-l, or-zero-r}
 use lib.ListN.{length}
-use borrow.Author.Tests.{le-leb, ltb-true, eq-eqb, ne-eqb, not-true, not-false}
+use borrow.Author.Tests.{ltb-true, eq-eqb, ne-eqb, not-true, not-false}
 use Rattle.model.specs.Number.{programRange}
 use Rattle.model.specs.Bytes.{byte}
 use Rattle.model.specs.Policy.{reading, trust, Accepted, principals, roles, rowAt, mayHold, mayTake}
 use Rattle.model.specs.Mutation.{Kind, addMember, deleteMember, addTaken, deleteTaken, Mutation, allowed}
 use Rattle.model.specs.Syntax.{of, Atom, role, fixed, atomByte, Query}
-use Rattle.model.specs.Program.{Read, got, bad, readByte, readBelow, atomAt, readAtom, readQuery, mutationAt, readMutation}
+use Rattle.model.specs.Program.{got, bad, readByte, readBelow, atomAt, readAtom, readQuery, mutationAt, readMutation}
 use Rattle.model.specs.Flow.{listedIn, allAllowed}
-use Rattle.model.proofs.Sets.{has-or-l, has-or-r, or-has, same-sets}
+use Rattle.model.proofs.Sets.{same-sets, or-assoc}
 use Rattle.model.proofs.Accepted.{accepted-facts}
 use Rattle.order.specs.Table.{AtomBelow, QueryBelow, namedRole, queryRoles, listRoles}
 use Rattle.order.specs.Rows.{atomOf}
 use Rattle.order.proofs.Joins.{joins-query, joins-bytes}
 use Rattle.walk.specs.Positions.{ahead}
-use Rattle.walk.proofs.Readings.{then-parts, pick-parts, either-parts, byte-parts, below-parts, many-none, many-more, query-parts, kindCode, mutation-parts}
+use Rattle.walk.proofs.PositionLaws.{ahead-is}
+use Rattle.walk.proofs.Readings.{then-parts, pick-parts, either-parts, same-value, byte-parts, below-parts, many-none, many-more, query-parts, kindCode, mutation-parts}
 use Rattle.flow.specs.Lists.{PairAt, ListedAt, NamedRoles, PairRolesAt, ListRolesAt, HoldsRight, TakesRight, OneAllowedAt, AllowedAt}
-
--- a position ahead within the bytes
-ahead-is : (p : List ℕ) (at n : ℕ) → at + n ≤ length p → ahead p at n ≡ at + n
-unfolding ahead
-ahead-is p at n l = simp (le-leb _ _ l)
 
 -- a pair that was read: its second byte stands one ahead, and the next pair two ahead
 module _ (p : List ℕ) (R at : ℕ) {k : Query} {end : ℕ} (e : readQuery p R at ≡ got k end) where
@@ -97,10 +93,6 @@ both-named x y a b f g q i j l =
     (λ k h. u .fixed-in reading k (v .fixed-out k h) .1)
     (λ k h. v .fixed-in reading k (u .fixed-out k h) .1)
 
--- what a reading gave is one thing
-same-value : {A : Type 0} {x y : A} {m n : ℕ} → _≡_ {A = Read A} (got x m) (got y n) → x ≡ y
-same-value e = cc
-
 -- an atom that was read names a role below 64, by its byte
 atom-at-small : (R at x next : ℕ) {a : Atom} {end : ℕ} → atomAt R at x next ≡ got a end → AtomBelow 64 a
 unfolding atomAt
@@ -108,13 +100,13 @@ atom-at-small R at x next {a} {end} e =
     ⊎-elim (λ h. small (λ j. role j) x (h .1) (ltb-true x 0x40 (h .0)))
     (λ h. ⊎-elim (λ g. small (λ j. fixed (of reading j)) (x - 0x40) (g .1) (omega (arith, ltb-true x 0x80 (g .0))))
     (λ h. ⊎-elim (λ g. small (λ j. fixed (of trust j)) (x - 0x80) (g .1) (omega (arith, ltb-true x 0xc0 (g .0))))
-    (λ h. subst (AtomBelow 64) (same-value (pick-parts (eqb x 0xff) _ _ _ (h .1) .1)) tt)
+    (λ h. subst (AtomBelow 64) (sym (same-value (pick-parts (eqb x 0xff) _ _ _ (h .1) .1) .0)) tt)
     (either-parts (ltb x 0xc0) _ _ (h .1)))
     (either-parts (ltb x 0x80) _ _ (h .1)))
     (either-parts (ltb x 0x40) _ _ e)
   where
     small : (f : ℕ → Atom) (j : ℕ) → cond (ltb j R) (got (f j) next) (bad programRange at) ≡ got a end → AtomBelow 64 (f j) → AtomBelow 64 a
-    small f j h g = subst (AtomBelow 64) (same-value (pick-parts (ltb j R) _ _ _ h .1)) g
+    small f j h g = subst (AtomBelow 64) (sym (same-value (pick-parts (ltb j R) _ _ _ h .1) .0)) g
 
 atom-small : (p : List ℕ) (R at : ℕ) {a : Atom} {end : ℕ} → readAtom p R at ≡ got a end → AtomBelow 64 a
 unfolding readAtom
@@ -125,18 +117,13 @@ unfolding readQuery
 query-small p R at e =
     let u = then-parts (readAtom p R at) _ e in
     let v = then-parts (readAtom p R (u .mid)) _ (u .after) in
-    subst (QueryBelow 64) (same-value (v .after)) (atom-small p R at (u .first), atom-small p R (u .mid) (v .first))
+    subst (QueryBelow 64) (sym (same-value (v .after) .0)) (atom-small p R at (u .first), atom-small p R (u .mid) (v .first))
 
 pub pair-names : (p : List ℕ) (at x n y r : ℕ) → x ≡ byte p at → n ≡ ahead p at 1 → y ≡ byte p n → NamedRoles x y r → PairRolesAt p at r
 unfolding NamedRoles PairRolesAt
 pair-names p at x n y r e f g h R q end k =
     let u = query-parts p R at k in
     h q (cc (u .first-byte)) (cc (pair-second p R at k)) (query-small p R at k)
-
-or-assoc : (a b c : ℕ) → bitOr (bitOr a b) c ≡ bitOr a (bitOr b c)
-or-assoc a b c = same-sets _ _
-    (λ p h. ⊎-elim (λ k. ⊎-elim (λ l. has-or-l a _ p l) (λ l. has-or-r a _ p (has-or-l b c p l)) (or-has a b p k)) (λ k. has-or-r a _ p (has-or-r b c p k)) (or-has (bitOr a b) c p h))
-    (λ p h. ⊎-elim (λ k. has-or-l _ c p (has-or-l a b p k)) (λ k. ⊎-elim (λ l. has-or-l _ c p (has-or-r a b p l)) (λ l. has-or-r (bitOr a b) c p l) (or-has b c p k)) (or-has a (bitOr b c) p h))
 
 -- the roles found so far, with those of the `left` pairs from `here` on, are the roles of all n
 module _ (p : List ℕ) (n at : ℕ) where
@@ -207,7 +194,7 @@ taken-fits p P R at e c =
     let b = byte-parts p at (k .first) in
     let u = then-parts (readBelow p R (at + 1)) _ (rw (b .1, b .2, c) at (k .after)) in
     let v = then-parts (readBelow p R (u .mid)) _ (u .after) in
-    rw (← (same-value (v .after))) (below-parts p (u .mid) R (v .first) .2)
+    rw (same-value (v .after) .0) (below-parts p (u .mid) R (v .first) .2)
 
 is-member : (kind : Kind) → kindCode kind ≡ 0 → kind ≡ addMember
 is-member addMember e = refl

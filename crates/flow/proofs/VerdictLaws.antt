@@ -16,7 +16,7 @@ use Rattle.order.specs.Table.{Knows}
 use Rattle.program.specs.declared.answer.Read.{Read}
 use Rattle.program.specs.declared.answer.Read.the-variants.{At, Bad}
 use Rattle.program.specs.Answer.{answerOf}
-use Rattle.walk.proofs.Readings.{ProgramParts, program-parts}
+use Rattle.model.proofs.Bodies.{ProgramParts, program-parts}
 use Rattle.flow.specs.declared.context.Context.{Context}
 use Rattle.flow.specs.declared.check.Around.{Around}
 use Rattle.flow.specs.declared.check.Checked.{Checked}

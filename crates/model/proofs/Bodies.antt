@@ -219,25 +219,24 @@ module _ (p : List ℕ) (R : ℕ) where
       each mid m f g zero l = let k : at + 0 ≡ at = omega arith in rw k f
       each mid m f g (suc i) l = let k : at + suc i ≡ mid + i = omega arith in rw k (g i (omega arith))
 
-module _ (p : List ℕ) (P R : ℕ) where
-  -- what was read is the statement after the labels, and it ends where the program does
-  abbrev pub ProgramBody : Stmt → ℕ → Type 0
-  ProgramBody x end =
-      (readStmt p P R (variables p) statementDepth (6 + 2 * variables p) ≡ got x end)
-      × (end ≡ length p)
-      × (variables p ≤ variableLimit)
-      × (6 + 2 * variables p ≤ length p)
-      × LabelsFit p R
+-- a program that was read: the labels are so, the statement stands after them, and it ends where the program does
+pub record ProgramParts (p : List ℕ) (P R : ℕ) (x : Stmt) (end : ℕ) : Type 0 where
+  pub few : variables p ≤ variableLimit
+  pub inside : 6 + 2 * variables p ≤ length p
+  pub labels : LabelsFit p R
+  pub body-read : readStmt p P R (variables p) statementDepth (6 + 2 * variables p) ≡ got x end
+  pub ends : end ≡ length p
 
-  body-gives : variables p ≤ variableLimit → 6 + 2 * variables p ≤ length p → LabelsFit p R → (vars at : ℕ) → vars ≡ variables p → at ≡ 6 + 2 * variables p → Gives ProgramBody (readBody p P R vars at)
+module _ (p : List ℕ) (P R : ℕ) where
+  body-gives : variables p ≤ variableLimit → 6 + 2 * variables p ≤ length p → LabelsFit p R → (vars at : ℕ) → vars ≡ variables p → at ≡ 6 + 2 * variables p → Gives (ProgramParts p P R) (readBody p P R vars at)
   unfolding readBody andThen
   body-gives few inside labels vars at v e = rw (v, e) (go (readStmt p P R (variables p) statementDepth (6 + 2 * variables p)) refl)
     where
-      go : (r : Read Stmt) → readStmt p P R (variables p) statementDepth (6 + 2 * variables p) ≡ r → Gives ProgramBody (andThen r (λ body end. cond (eqb end (length p)) (got body end) (bad programLength end)))
-      go (got x end) h = pick-gives (eqb end (length p)) (λ l. gives (h, eqb-true end (length p) l, few, inside, labels)) fails
+      go : (r : Read Stmt) → readStmt p P R (variables p) statementDepth (6 + 2 * variables p) ≡ r → Gives (ProgramParts p P R) (andThen r (λ body end. cond (eqb end (length p)) (got body end) (bad programLength end)))
+      go (got x end) h = pick-gives (eqb end (length p)) (λ l. gives (record { few = few; inside = inside; labels = labels; body-read = h; ends = eqb-true end (length p) l })) fails
       go (bad k place) h = fails
 
-  program-gives : Gives ProgramBody (readProgram p P R)
+  program-gives : Gives (ProgramParts p P R) (readProgram p P R)
   unfolding readProgram
   program-gives =
       pick-gives (leb (length p) programBytes)
@@ -250,15 +249,15 @@ module _ (p : List ℕ) (P R : ℕ) where
       (λ _ at g. body-gives (omega arith) (omega arith) (rw (v, o) at (g .2)) vars at v (omega arith)))))
       fails
 
-  pub program-body : {x : Stmt} {end : ℕ} → readProgram p P R ≡ got x end → ProgramBody x end
-  program-body e = gives-got (rw e at program-gives)
+  pub program-parts : {x : Stmt} {end : ℕ} → readProgram p P R ≡ got x end → ProgramParts p P R x end
+  program-parts e = gives-got (rw e at program-gives)
 
   -- so the bodies of its transactions are parts of its bytes
   pub program-bodies : {x : Stmt} {end : ℕ} → readProgram p P R ≡ got x end → BodiesWithin (length p) x
   program-bodies {x} e =
-      let b = program-body e in
-      let w : BodiesWithin _ x = bodies-inside p P R (variables p) statementDepth (6 + 2 * variables p) (b .0) .2 in
-      rw (b .1) at w
+      let b = program-parts e in
+      let w : BodiesWithin _ x = bodies-inside p P R (variables p) statementDepth (6 + 2 * variables p) (b .body-read) .2 in
+      rw (b .ends) at w
 
 -- the body of transaction k: the empty part under a refusal, else that of what was read
 module _ (s p : List ℕ) (k : ℕ) where

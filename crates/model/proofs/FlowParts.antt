@@ -10,8 +10,8 @@ use lib.Bits.{bitOr}
 use borrow.Author.Tests.{eqb-true}
 use Rattle.model.specs.Number.{accepted, Verdict, fine, refused, require, orElse}
 use Rattle.model.specs.Sets.{has}
-use Rattle.model.specs.Policy.{principals, roles, Side, reading, trust, Accepted, SameFixed, policyNumber}
-use Rattle.model.specs.Mutation.{Kind, addMember, deleteMember, addTaken, deleteTaken, operandBelow, Mutation}
+use Rattle.model.specs.Policy.{principals, roles, Side, reading, trust, Accepted, policyNumber, SameFixed}
+use Rattle.model.specs.Mutation.{Kind, addMember, deleteMember, addTaken, deleteTaken, operandBelow, mutate, Mutation}
 use Rattle.model.specs.Syntax.{of, Atom, fixed, Query, Expr, Stmt, skip, assign, empty, block, if, while, query, update, transaction}
 use Rattle.model.specs.Program.{Read, got, bad, variableLimit, variables, readProgram}
 use Rattle.model.specs.Order.{joinAtMost}
@@ -19,11 +19,12 @@ use Rattle.model.specs.Flow.{label, exprLabel, assigned, rolesOf, mutate
 use Rattle.model.proofs.Accepted.{accepted-facts}
 use Rattle.model.proofs.Below.{last-or}
 use Rattle.model.proofs.Fits.{Each, each-cons, QueryFits, operandLimit, MutationFits, Fits, listed-member}
+use Rattle.model.proofs.Fixed.{fixed-trans}
+use Rattle.model.proofs.Mutation.{mutate-fixed, mutate-accepted, allowed-fixed}
 use Rattle.model.proofs.Order.{JoinAtMost, join-derivable}
 use Rattle.model.proofs.Reading.{program-fits}
 use Rattle.model.proofs.Sets.{has-or-l, has-or-r, has-with, has-with-same}
 use Rattle.model.proofs.Truth.{both}
-use Rattle.model.proofs.Verdict.{flow-fixed}
 
 -- a verdict is fine where all that it is chosen from is
 refused-not-fine : (k place : ℕ) → refused k place ≡ fine → ⊥
@@ -68,15 +69,6 @@ pub record Placed (s p : List ℕ) (around : Around) (known : List Query) (conte
   pub surrounded : Surrounded (roles s) around x
   pub flows : flow s p around known context x ≡ fine
 
--- the fixed part decides where a statement may stand
-pub placed-fixed : {a b p : List ℕ} {around : Around} {known : List Query} {context : Side → List Atom} {x : Stmt}
-    → Accepted a → Accepted b → SameFixed a b → Placed a p around known context x → Placed b p around known context x
-placed-fixed {a} {b} {p} {around} {known} {context} {x} oka okb same h = record {
-  fits = rw (same .same-principals, same .same-roles) at (h .fits);
-  surrounded = rw (same .same-roles) at (h .surrounded);
-  flows = rw (flow-fixed a b oka okb same p around known context x) at (h .flows);
-}
-
 -- the surrounding transaction, if any, has the variable in its set
 abbrev pub Writes : Around → ℕ → Type 0
 Writes outside x = Unit {0}
@@ -103,6 +95,28 @@ pub record Mutates (s : List ℕ) (rs : ℕ) (m : Mutation) : Type 0 where
   pub operand-below : m .operand < operandBelow s (m .kind)
   pub is-allowed : mayMutate s m ≡ true
   pub named : has rs (m .role) ≡ true
+
+operand-fixed : {s a : List ℕ} → SameFixed s a → (k : Kind) → operandBelow s k ≡ operandBelow a k
+operand-fixed e addMember = e .same-principals
+operand-fixed e deleteMember = e .same-principals
+operand-fixed e addTaken = e .same-roles
+operand-fixed e deleteTaken = e .same-roles
+
+-- what it needs of s it has of any policy with the same fixed part, and keeps that accepted too
+module _ {s a : List ℕ} {rs : ℕ} {m : Mutation} (h : Mutates s rs m) (same : SameFixed s a) where
+  pub mutates-role : m .role < roles a
+  mutates-role = rw (same .same-roles) at (h .role-below)
+
+  pub mutates-operand : m .operand < operandBelow a (m .kind)
+  mutates-operand = rw (operand-fixed same (m .kind)) at (h .operand-below)
+
+  pub mutates-accepted : Accepted a → Accepted (mutate a (m .kind) (m .role) (m .operand))
+  mutates-accepted ok =
+      mutate-accepted a (m .kind) (m .role) (m .operand) ok mutates-role mutates-operand
+      (rw (allowed-fixed same (m .kind) (m .role) (m .operand) (h .role-below) (h .operand-below)) at (h .is-allowed))
+
+  pub mutates-fixed : SameFixed s (mutate a (m .kind) (m .role) (m .operand))
+  mutates-fixed = fixed-trans same (mutate-fixed a (m .kind) (m .role) (m .operand))
 
 operand-limit : (s : List ℕ) (k : Kind) → operandLimit (principals s) (roles s) k ≡ operandBelow s k
 operand-limit s addMember = refl

@@ -10,7 +10,7 @@ use lib.ListN.{length}
 use Rattle.model.specs.Number.{accepted}
 use Rattle.model.specs.Sets.{has, with}
 use Rattle.model.specs.Policy.{principals, roles, Side, Accepted, SameFixed, Agree}
-use Rattle.model.specs.Mutation.{Kind, addMember, deleteMember, addTaken, deleteTaken, operandBelow, mutate, Mutation}
+use Rattle.model.specs.Mutation.{mutate, Mutation}
 use Rattle.model.specs.Syntax.{Atom, Query, Expr, Stmt, skip, assign, empty, block, if, while, query, update, transaction}
 use Rattle.model.specs.Program.{got, readProgram}
 use Rattle.model.specs.Flow.{rolesOf, mutated, Around, outside, inside}
@@ -20,8 +20,8 @@ use Rattle.model.specs.Run.{Update, Result, done, rolled, spent, after, 
 use Rattle.model.proofs.Bytes.{length-put}
 use Rattle.model.proofs.Fits.{Each, each-cons}
 use Rattle.model.proofs.Fixed.{fixed-refl, fixed-trans, agree-refl, agree-trans}
-use Rattle.model.proofs.FlowParts.{Mutates, Placed, parts}
-use Rattle.model.proofs.Mutation.{length-mutate, mutate-fixed, mutate-other, mutate-accepted, allowed-fixed}
+use Rattle.model.proofs.FlowParts.{Mutates, mutates-accepted, mutates-fixed, Placed, parts}
+use Rattle.model.proofs.Mutation.{length-mutate, mutate-fixed, mutate-other}
 use Rattle.model.proofs.RunLaws.{Begins, result, run-is, Ran, refuses, finishes, spends, ran, finished-begins}
 use Rattle.model.proofs.Sets.{has-or-l, has-or-r, has-with, has-with-same}
 use Rattle.model.proofs.Truth.{backwards}
@@ -220,19 +220,9 @@ module _ (s : List ℕ) where
   pub fine-steps : Steps KeepsFine
   fine-steps = record { stay = λ a h. h; chain = λ {s} {t} {u} g h k. h (g k) }
 
-  operand-fixed : {a : List ℕ} → SameFixed s a → (k : Kind) → operandBelow s k ≡ operandBelow a k
-  operand-fixed e addMember = e .same-principals
-  operand-fixed e deleteMember = e .same-principals
-  operand-fixed e addTaken = e .same-roles
-  operand-fixed e deleteTaken = e .same-roles
-
   -- a mutation that s allows does, since what is allowed depends on the fixed part only
   mutate-fine : {rs : ℕ} {k : Mutation} → Mutates s rs k → (a : List ℕ) → KeepsFine a (mutate a (k .kind) (k .role) (k .operand))
-  mutate-fine {k} h a (ok, e) = (
-    mutate-accepted a (k .kind) (k .role) (k .operand) ok (rw (e .same-roles) at (h .role-below)) (rw (operand-fixed e (k .kind)) at (h .operand-below))
-        (rw (allowed-fixed e (k .kind) (k .role) (k .operand) (h .role-below) (h .operand-below)) at (h .is-allowed)),
-    fixed-trans e (mutate-fixed a (k .kind) (k .role) (k .operand)),
-  )
+  mutate-fine h a (ok, e) = (mutates-accepted h e ok, mutates-fixed h e)
 
   module _ (good : Accepted s) (p : List ℕ) where
     -- and acceptance says that each update has such mutations only

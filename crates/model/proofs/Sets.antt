@@ -73,6 +73,14 @@ subset-le a b f = omega (arith, eqb-true (bitAnd a b) a (has-within a b f), and-
 pub same-sets : (a b : ℕ) → ((i : ℕ) → has a i ≡ true → has b i ≡ true) → ((i : ℕ) → has b i ≡ true → has a i ≡ true) → a ≡ b
 same-sets a b f g = omega (arith, subset-le a b f, subset-le b a g)
 
+pub or-assoc : (a b c : ℕ) → bitOr (bitOr a b) c ≡ bitOr a (bitOr b c)
+or-assoc a b c =
+    same-sets _ _
+    (λ i h. ⊎-elim (λ g. ⊎-elim (λ k. has-or-l a (bitOr b c) i k) (λ k. has-or-r a (bitOr b c) i (has-or-l b c i k)) (or-has a b i g))
+    (λ g. has-or-r a (bitOr b c) i (has-or-r b c i g)) (or-has (bitOr a b) c i h))
+    (λ i h. ⊎-elim (λ g. has-or-l (bitOr a b) c i (has-or-l a b i g))
+    (λ g. ⊎-elim (λ k. has-or-l (bitOr a b) c i (has-or-r a b i k)) (λ k. has-or-r (bitOr a b) c i k) (or-has b c i g)) (or-has a (bitOr b c) i h))
+
 -- a set below 2 ^ n has only numbers below n
 pub has-below : (n a i : ℕ) → a < 2 ^ n → has a i ≡ true → i < n
 has-below n a i l h = go (decLt i n)

@@ -6,36 +6,23 @@ use mathlib.Core.Path.{_≡_, refl, sym, _∙_}
 use mathlib.Core.List.{List, [], _∷_, List·Memᴰ·head, List·Memᴰ·tail}
 use mathlib.Core.Bool.{true, false}
 use Rattle.model.specs.Sets.{has}
-use Rattle.model.specs.Policy.{roles, SameFixed, Agree}
-use Rattle.model.specs.Mutation.{Kind, addMember, deleteMember, addTaken, deleteTaken, operandBelow, mutate, Mutation}
+use Rattle.model.specs.Policy.{Agree}
+use Rattle.model.specs.Mutation.{Kind, addMember, deleteMember, addTaken, deleteTaken, mutate, Mutation}
 use Rattle.model.specs.Run.{mutateAll}
 use Rattle.model.proofs.Accepted.{accepted-facts}
 use Rattle.model.proofs.Fits.{Each}
-use Rattle.model.proofs.Fixed.{fixed-trans, agree-refl, agree-trans}
-use Rattle.model.proofs.FlowParts.{Mutates}
-use Rattle.model.proofs.Mutation.{mutate-fixed, mutate-other, mutate-row, mutate-accepted, allowed-fixed, membersAfter, takesAfter}
+use Rattle.model.proofs.Fixed.{agree-refl, agree-trans}
+use Rattle.model.proofs.FlowParts.{Mutates, mutates-role, mutates-operand, mutates-accepted, mutates-fixed}
+use Rattle.model.proofs.Mutation.{mutate-other, mutate-row, membersAfter, takesAfter}
 use Rattle.model.proofs.Openness.{Setting, rowOpen, Good, Near}
 use Rattle.model.proofs.Sees.{clash}
 
-operand-fixed : {a b : List ℕ} → SameFixed a b → (k : Kind) → operandBelow a k ≡ operandBelow b k
-operand-fixed f addMember = f .same-principals
-operand-fixed f deleteMember = f .same-principals
-operand-fixed f addTaken = f .same-roles
-operand-fixed f deleteTaken = f .same-roles
-
 -- a mutation that acceptance let through, of a policy with the fixed part
 module _ {S : Setting} {rs : ℕ} {m : Mutation} (h : Mutates (S .base) rs m) where
-  role-there : {s : List ℕ} → Good S s → m .role < roles s
-  role-there g = rw (g .same-base .same-roles) at (h .role-below)
-
-  operand-there : {s : List ℕ} → Good S s → m .operand < operandBelow s (m .kind)
-  operand-there g = rw (operand-fixed (g .same-base) (m .kind)) at (h .operand-below)
-
   mutation-good : {s : List ℕ} → Good S s → Good S (mutate s (m .kind) (m .role) (m .operand))
   mutation-good {s} g = record {
-    accepted = mutate-accepted s (m .kind) (m .role) (m .operand) (g .accepted) (role-there g) (operand-there g)
-        (sym (allowed-fixed (g .same-base) (m .kind) (m .role) (m .operand) (h .role-below) (h .operand-below)) ∙ h .is-allowed);
-    same-base = fixed-trans (g .same-base) (mutate-fixed s (m .kind) (m .role) (m .operand));
+    accepted = mutates-accepted h (g .same-base) (g .accepted);
+    same-base = mutates-fixed h (g .same-base);
   }
 
   mutation-same : {a b : List ℕ} → Good S a → Good S b → (r : ℕ) → Agree a b r → Agree (mutate a (m .kind) (m .role) (m .operand)) (mutate b (m .kind) (m .role) (m .operand)) r
@@ -55,8 +42,8 @@ module _ {S : Setting} {rs : ℕ} {m : Mutation} (h : Mutates (S .base) rs m) wh
 
       go : Dec (r ≡ m .role) → Agree (mutate a (m .kind) (m .role) (m .operand)) (mutate b (m .kind) (m .role) (m .operand)) r
       go (yes i) =
-          let u = mutate-row a (m .kind) (m .role) (m .operand) (f .accepted) (role-there f) (operand-there f) in
-          let v = mutate-row b (m .kind) (m .role) (m .operand) (g .accepted) (role-there g) (operand-there g) in
+          let u = mutate-row a (m .kind) (m .role) (m .operand) (f .accepted) (mutates-role h (f .same-base)) (mutates-operand h (f .same-base)) in
+          let v = mutate-row b (m .kind) (m .role) (m .operand) (g .accepted) (mutates-role h (g .same-base)) (mutates-operand h (g .same-base)) in
           let d : Agree a b (m .role) = rw i at e in
           rw i record {
             same-members = u .0 ∙ members-same (m .kind) (m .operand) d ∙ sym (v .0);

@@ -14,17 +14,11 @@ use Rattle.model.specs.Sets.{has, without}
 use Rattle.model.specs.Policy.{roles, rowAt, members, takes, Accepted, policyNumber}
 use Rattle.model.specs.Meaning.{gather, grown, steps, rounds, column, meanings, meaning, answer, meaningOf}
 use Rattle.model.proofs.Accepted.{accepted-facts}
-use Rattle.model.proofs.Sets.{has-zero, has-or-l, has-or-r, or-has, same-sets, has-below, has-without, without-has, without-le}
+use Rattle.model.proofs.Sets.{has-zero, has-or-l, has-or-r, or-has, same-sets, or-assoc, has-below, has-without, without-has, without-le}
 use Rattle.model.proofs.Least.{In, gather-has, has-gather, column-length, column-at}
 use Rattle.policy.proofs.SetLaws.{next-without}
 use Rattle.policy.proofs.TakesLaws.{same-or, smaller}
 use Rattle.policy.specs.Rounds.{Still, Fitting}
-
--- the union over the roles in row, of which `rest` are still to come
-or-assoc : (a b c : ℕ) → bitOr (bitOr a b) c ≡ bitOr a (bitOr b c)
-or-assoc a b c = same-sets _ _
-    (λ p h. ⊎-elim (λ k. ⊎-elim (λ l. has-or-l a _ p l) (λ l. has-or-r a _ p (has-or-l b c p l)) (or-has a b p k)) (λ k. has-or-r a _ p (has-or-r b c p k)) (or-has (bitOr a b) c p h))
-    (λ p h. ⊎-elim (λ k. has-or-l _ c p (has-or-l a b p k)) (λ k. ⊎-elim (λ l. has-or-l _ c p (has-or-r a b p l)) (λ l. has-or-r (bitOr a b) c p l) (or-has b c p k)) (or-has a (bitOr b c) p h))
 
 -- a role that is in row may be taken out first
 gather-out : (w : List ℕ) (row n j : ℕ) → row < 2 ^ n → has row j ≡ true → gather w row n ≡ bitOr (getD w j 0) (gather w (without row j) n)
@@ -46,6 +40,7 @@ gather-out w row n j fits m = same-sets _ _ there back
 gather-none : (w : List ℕ) (n : ℕ) → gather w 0 n ≡ 0
 gather-none w n = same-sets _ _ (λ p h. let (x, l, t, k) = has-gather w 0 p n h in absurd (true≢false (sym t ∙ has-zero x))) (λ p h. absurd (true≢false (sym h ∙ has-zero p)))
 
+-- the union over the roles in row, of which `rest` are still to come
 module _ (w : List ℕ) (n u rest all : ℕ) (e : bitOr u (gather w rest n) ≡ all) where
   pub union-turn : (j next : ℕ) → rest < 2 ^ n → has rest j ≡ true → next ≡ without rest j → bitOr (bitOr u (getD w j 0)) (gather w next n) ≡ all
   union-turn j next fits m f = rw f (or-assoc u (getD w j 0) (gather w (without rest j) n) ∙ ap (λ (x : ℕ). bitOr u x) (sym (gather-out w rest n j fits m)) ∙ e)

@@ -1,6 +1,6 @@
 pub mod Readings
 mod WordLaws
-mod PositionLaws
+pub mod PositionLaws
 mod LabelLaws
 mod WriteLaws
 pub mod BodyLaws

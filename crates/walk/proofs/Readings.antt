@@ -4,9 +4,8 @@ use mathlib.Core.Path.{_≡_, refl, sym, ap, _∙_}
 use mathlib.Core.Logic.{_⊎_, inl, inr, ⊎-elim}
 use Prim.Native.Nat.{ℕ, zero, suc, _+_, _-_, _*_, _<_, _≤_}
 use mathlib.Core.List.{List, [], _∷_}
-use mathlib.Core.Bool.{Bool, true, false, cond, _||_}
+use mathlib.Core.Bool.{Bool, true, false, cond}
 use native.Mathlib.Omega.{arith}
-use native.Mathlib.Nat.{lt-of-lt-of-le}
 use lib.Dec.{eqb, ltb, leb}
 use lib.ListN.{length}
 use borrow.Author.Tests.{ltb-true, ltb-false, leb-true, leb-false, eqb-true, ne-eqb}
@@ -15,8 +14,7 @@ use Rattle.model.specs.Bytes.{byte, word}
 use Rattle.model.specs.Policy.{reading, trust}
 use Rattle.model.specs.Mutation.{Kind, addMember, deleteMember, addTaken, deleteTaken, Mutation}
 use Rattle.model.specs.Syntax.{of, Atom, role, fixed, atomByte, Query, Operator, sum, difference, product, quotient, less, equal, Expr, constant, variable, binary, Stmt, skip, assign, if, while, query, update, transaction}
-use Rattle.model.specs.Program.{Read, got, bad, andThen, readByte, readBelow, readMark, readMany, programHead, programBytes, variableLimit, statementDepth, expressionDepth, listLimit, atomAt, readAtom, readLabel, readQuery, mutationAt, readMutation, binaryAt, exprAt, readExpr, blockOf, assignAt, blockAt, ifAt, whileAt, queryAt, updateAt, transactionAt, stmtAt, readStmt, variables, readBody, readProgram}
-use Rattle.walk.specs.Labels.{LabelsRight}
+use Rattle.model.specs.Program.{Read, got, bad, andThen, readByte, readBelow, readMany, expressionDepth, listLimit, atomAt, readAtom, readQuery, mutationAt, readMutation, binaryAt, exprAt, readExpr, blockOf, assignAt, blockAt, ifAt, whileAt, queryAt, updateAt, transactionAt, stmtAt, readStmt}
 
 -- a refusal gives nothing
 pub refused-not : {A : Type 0} {k place : ℕ} {x : A} {end : ℕ} → _≡_ {A = Read A} (bad k place) (got x end) → ⊥
@@ -45,7 +43,7 @@ module _ {A : Type 0} where
   either-parts true r q e = inl (refl, e)
   either-parts false r q e = inr (refl, e)
 
-  same-value : {x y : A} {m n : ℕ} → _≡_ {A = Read A} (got x m) (got y n) → (y ≡ x) × (n ≡ m)
+  pub same-value : {x y : A} {m n : ℕ} → _≡_ {A = Read A} (got x m) (got y n) → (y ≡ x) × (n ≡ m)
   same-value e = ((cc), (cc))
 
 module _ (p : List ℕ) (at : ℕ) where
@@ -539,88 +537,3 @@ module _ (p : List ℕ) (P R vars d at : ℕ) {x : Stmt} {end : ℕ} (h : readSt
   -- a byte that is none of the other codes: a skip
   pub other-parts : (c : ℕ) → c ≡ byte p at → (c ≡ 1 → ⊥) → (c ≡ 2 → ⊥) → (c ≡ 3 → ⊥) → (c ≡ 4 → ⊥) → (c ≡ 5 → ⊥) → (c ≡ 6 → ⊥) → (c ≡ 7 → ⊥) → (x ≡ skip) × (end ≡ at + 1)
   other-parts c i n₁ n₂ n₃ n₄ n₅ n₆ n₇ = skip-parts (sym i ∙ low-code c (high-code c (rw i stmt-known) n₅ n₆ n₇) n₁ n₂ n₃ n₄)
-
--- a mark, a label, n labels
-module _ (p : List ℕ) where
-  mark-end : (m : List ℕ) (at : ℕ) {x end : ℕ} → readMark p m at ≡ got x end → end ≡ at + length m
-  unfolding readMark
-  mark-end [] at e = let s = same-value e in omega arith
-  mark-end (b ∷ m) at e =
-      let u = then-parts (readByte p at) _ e in
-      let v = byte-parts p at (u .first) in
-      let w = pick-parts (eqb (u .value) b) _ _ _ (u .after) in
-      omega (arith, mark-end m (u .mid) (w .1))
-
-  module _ (R : ℕ) where
-    pub label-parts : (at : ℕ) {x end : ℕ} → readLabel p R at ≡ got x end → (at < length p) × ((byte p at ≡ 0xff → ⊥) → byte p at < R) × (end ≡ at + 1)
-    unfolding readLabel
-    label-parts at e =
-        let u = then-parts (readByte p at) _ e in
-        let v = byte-parts p at (u .first) in
-        let w = pick-parts (ltb (u .value) R || eqb (u .value) 0xff) _ _ _ (u .after) in
-        let s = same-value (w .1) in
-        (v .0, rw (← (v .1)) (either (u .value) (w .0)), s .1 ∙ v .2)
-      where
-        either : (b : ℕ) → (ltb b R || eqb b 0xff) ≡ true → (b ≡ 0xff → ⊥) → b < R
-        either b h n = go (ltb b R) refl
-          where
-            go : (t : Bool) → ltb b R ≡ t → b < R
-            go true g = ltb-true b R g
-            go false g = absurd (n (eqb-true b 0xff (rw g at h)))
-
-    pub labels-parts : (n at : ℕ) {xs : List ℕ} {end : ℕ} → readMany (readLabel p R) n at ≡ got xs end → at ≤ length p → (end ≡ at + n) × (end ≤ length p) × ((i : ℕ) → i < n → (byte p (at + i) ≡ 0xff → ⊥) → byte p (at + i) < R)
-    unfolding readMany
-    labels-parts zero at e h = let s = same-value e in (omega arith, omega arith, λ i l. absurd (omega arith))
-    labels-parts (suc n) at e h =
-        let u = then-parts (readLabel p R at) _ e in
-        let v = then-parts (readMany (readLabel p R) n (u .mid)) _ (u .after) in
-        let s = same-value (v .after) in
-        let a = label-parts at (u .first) in
-        let b = labels-parts n (u .mid) (v .first) (omega arith) in
-        (omega arith, omega arith, each (u .mid) (a .2) (a .1) (b .2))
-      where
-        each : (mid : ℕ) → mid ≡ at + 1 → ((byte p at ≡ 0xff → ⊥) → byte p at < R) → ((i : ℕ) → i < n → (byte p (mid + i) ≡ 0xff → ⊥) → byte p (mid + i) < R) → (i : ℕ) → i < suc n → (byte p (at + i) ≡ 0xff → ⊥) → byte p (at + i) < R
-        each mid m f g zero l = let k : at + 0 ≡ at = omega arith in rw k f
-        each mid m f g (suc i) l = let k : at + suc i ≡ mid + i = omega arith in rw k (g i (omega arith))
-
--- a whole program
-pub record ProgramParts (p : List ℕ) (P R : ℕ) (x : Stmt) (end : ℕ) : Type 0 where
-  pub small : length p ≤ programBytes
-  pub few : variables p ≤ variableLimit
-  pub inside : 6 + 2 * variables p ≤ length p
-  pub labels : (i : ℕ) → i < 2 * variables p → (byte p (6 + i) ≡ 0xff → ⊥) → byte p (6 + i) < R
-  pub body-read : readStmt p P R (variables p) statementDepth (6 + 2 * variables p) ≡ got x end
-  pub ends : end ≡ length p
-
-pub program-parts : (p : List ℕ) (P R : ℕ) {x : Stmt} {end : ℕ} → readProgram p P R ≡ got x end → ProgramParts p P R x end
-unfolding readProgram readBody
-program-parts p P R e =
-    let a = pick-parts (leb (length p) programBytes) _ _ _ e in
-    let m = then-parts (readMark p programHead 0) _ (a .1) in
-    let v = then-parts (readBelow p (suc variableLimit) (m .mid)) _ (m .after) in
-    let l = then-parts (readMany (readLabel p R) (2 * v .value) (v .mid)) _ (v .after) in
-    let b = then-parts (readStmt p P R (v .value) statementDepth (l .mid)) _ (l .after) in
-    let c = pick-parts (eqb (b .mid) (length p)) _ _ _ (b .after) in
-    let s = same-value (c .1) in
-    let h : m .mid ≡ 5 = mark-end p programHead 0 (m .first) in
-    let w = below-parts p (m .mid) (suc variableLimit) (v .first) in
-    let n : v .value ≡ variables p = w .1 ∙ ap (byte p) h in
-    let q : v .mid ≡ 6 = omega arith in
-    let g = labels-parts p R (2 * v .value) (v .mid) (l .first) (omega arith) in
-    let o : l .mid ≡ 6 + 2 * variables p = omega arith in
-    record {
-      small = leb-true (length p) programBytes (a .0);
-      few = omega arith;
-      inside = omega arith;
-      labels = rw (n, q) at (g .2);
-      body-read = cc (n, o, s .0, s .1, b .first);
-      ends = s .1 ∙ eqb-true (b .mid) (length p) (c .0);
-    }
-
--- in a program that was read, under as many roles as a policy may have, labels are what the walk over an expression asks
-pub labels-right : (p : List ℕ) (P R : ℕ) {x : Stmt} {end : ℕ} → ProgramParts p P R x end → R ≤ 64 → LabelsRight p (variables p)
-unfolding LabelsRight
-labels-right p P R u few reading v l n = lt-of-lt-of-le (u .labels (2 * v) (omega arith) n) few
-labels-right p P R u few trust v l n =
-    let k : 6 + (2 * v + 1) ≡ 7 + 2 * v = omega arith in
-    lt-of-lt-of-le (rw k at (u .labels (2 * v + 1) (omega arith)) n) few

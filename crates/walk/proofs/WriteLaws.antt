@@ -17,7 +17,8 @@ use Rattle.walk.specs.Positions.{ahead, afterList, ExprEnds}
 use Rattle.walk.specs.Writes.{Fit, stmtWrites, bothWrites, WritesAt, PairWrites, BlockWrites, UpdateWrites}
 use Rattle.walk.proofs.Readings.{many-none, many-more, mutation-parts, stmt-deep, stmt-there, other-parts, assign-parts, block-parts, if-parts, while-parts, branch-parts, update-parts, transaction-parts}
 use Rattle.walk.proofs.PositionLaws.{ahead-is, list-is}
-use Rattle.walk.proofs.WordLaws.{single-is, or-assoc}
+use Rattle.model.proofs.Sets.{or-assoc}
+use Rattle.walk.proofs.WordLaws.{single-is}
 
 -- the mutations of an update that are left, and the roles of those before
 pub record Mutated (p : List ℕ) (P R left next roles : ℕ) (ms : List Mutation) (end : ℕ) : Type 0 where
