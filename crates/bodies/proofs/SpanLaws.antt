@@ -11,7 +11,8 @@ use Rattle.model.specs.Flow.{part, bodies, programVerdict, transactionPart}
 use Rattle.model.specs.Calls.{partBytes}
 use Rattle.model.proofs.Accepted.{accepted-facts}
 use Rattle.model.proofs.FlowParts.{accepted-program}
-use Rattle.model.proofs.Bodies.{PartWithin, each-at, program-parts, program-bodies, transaction-is}
+use Rattle.model.proofs.Bodies.{PartWithin, each-at, transaction-is}
+use Rattle.model.proofs.Reading.{program-parts}
 use Rattle.walk.specs.declared.bodies.Found.{Found}
 use Rattle.walk.specs.Bodies.{foundOf, FoundAt}
 use Rattle.walk.proofs.BodyLaws.{found-part}
@@ -21,7 +22,8 @@ module _ (s p : List ℕ) (k : ℕ) (h : programVerdict s p ≡ fine) where
   part-inside : PartWithin (length p) (transactionPart s p k)
   part-inside =
       let a = accepted-program s p h in
-      rw (transaction-is s p k h (a .is-read)) (each-at {Q = PartWithin (length p)} (bodies (a .body)) k (part 0 0) (program-bodies p (principals s) (roles s) (a .is-read)) (omega arith))
+      let u = program-parts p (principals s) (roles s) (a .is-read) in
+      rw (transaction-is s p k h (a .is-read), ← (u .ends)) (each-at {Q = PartWithin (a .end)} (bodies (a .body)) k (part 0 0) (u .bodies-within) (omega arith))
 
   module _ (P R vars pairs : ℕ) (f : Found) (eP : P ≡ byte s 5) (eR : R ≡ byte s 6) (eV : vars ≡ byte p 5) (w : pairs ≡ vars) (g : FoundAt p P R vars 32 (6 + 2 * pairs) k f) where
     pub span-is : part (f .start) (f .size) ≡ transactionPart s p k

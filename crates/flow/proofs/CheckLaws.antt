@@ -2,12 +2,11 @@
 -- that stands at the position.
 use mathlib.Core.Path.{_≡_, refl, sym, ap, _∙_}
 use mathlib.Core.Logic.{⊎-elim}
-use Prim.Native.Nat.{ℕ, _+_, _-_, _*_, _<_, _≤_}
+use Prim.Native.Nat.{ℕ, _+_, _-_, _<_, _≤_}
 use native.Mathlib.Omega.{arith}
 use native.Mathlib.Nat.{lt-of-lt-of-le}
 use mathlib.Core.List.{List, [], _∷_, _++_, List·Memᴰ·head, List·Memᴰ·tail}
 use mathlib.Core.Bool.{Bool, true, false, and-comm, true≢false}
-use lib.ListN.{length}
 use lib.Bits.{bitOr}
 use borrow.Author.Tests.{ne-eqb}
 use Rattle.model.specs.Number.{Verdict, fine, refused, require, orElse}
@@ -28,7 +27,7 @@ use Rattle.walk.specs.declared.writes.Writes.{Writes}
 use Rattle.walk.specs.Positions.{ahead, afterList}
 use Rattle.walk.specs.Labels.{LabelsRight, exprLabels, LabelsAt}
 use Rattle.walk.specs.Writes.{stmtWrites, WritesAt}
-use Rattle.walk.proofs.PositionLaws.{ahead-is}
+use Rattle.walk.proofs.PositionLaws.{ahead-is, list-is}
 use Rattle.walk.proofs.Readings.{many-none, many-more, mutations-end, stmt-deep, stmt-there, other-parts, assign-parts, block-parts, if-parts, while-parts, branch-parts, update-parts, transaction-parts}
 use Rattle.flow.specs.declared.context.Context.{Context}
 use Rattle.flow.specs.declared.check.Sizes.{Sizes}
@@ -40,13 +39,6 @@ use Rattle.flow.specs.Context.{ContextIs, withLabels, withNamed}
 use Rattle.flow.specs.Judge.{LabelsBelow, SetBelow, sidesNumber, Asked, labelsAbove, watchersAbove, WriteNumber, AssignNumber}
 use Rattle.flow.specs.Check.{checkedOf, checkedNumber, Inside, AroundIs, Stands, StmtAt, StmtFits, CheckedAt, CodedAt, AssignAt, UpdateAt, PairAt, BranchesAt, bodyStart, EnteredAt}
 use Rattle.flow.proofs.ContextLaws.{context-expr, context-query, context-list}
-
--- positions inside the bytes
-list-is : (p : List ℕ) (at size : ℕ) → at + 2 + size * byte p (at + 1) ≤ length p → afterList p at size ≡ at + 2 + size * byte p (at + 1)
-unfolding afterList
-list-is p at size h =
-    let k : at + (2 + size * byte p (at + 1)) ≡ at + 2 + size * byte p (at + 1) = omega arith in
-    rw (ahead-is p at 1 (omega arith), ahead-is p at (2 + size * byte p (at + 1)) (omega arith)) k
 
 -- answers
 pub answer-fine : (k place end : ℕ) → k ≡ 0 → Next end ≡ checkedNumber k place end

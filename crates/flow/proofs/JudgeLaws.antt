@@ -4,7 +4,7 @@ use Prim.Native.Nat.{ℕ, zero, suc, _+_, _*_, _^_, _<_, _≤_}
 use native.Mathlib.Omega.{arith}
 use native.Mathlib.Decide.{decLt, ℕ-discrete}
 use mathlib.Core.List.{List}
-use mathlib.Core.Bool.{Bool, true, false, cond, _&&_, true≢false}
+use mathlib.Core.Bool.{Bool, true, false, cond, _&&_}
 use lib.Pow.{pow-pos}
 use lib.Count.{trailingZeros}
 use Rattle.model.specs.Sets.{has, without}
@@ -14,6 +14,7 @@ use Rattle.model.specs.Syntax.{of, Atom, fixed, Query, atomByte}
 use Rattle.model.specs.Order.{joinAtMost}
 use Rattle.model.specs.Flow.{label, eachIn}
 use Rattle.model.proofs.Sets.{has-zero, has-below, has-without, without-has}
+use Rattle.model.proofs.Truth.{same-truth}
 use Rattle.order.specs.Table.{sideOf, Decides}
 use Rattle.walk.specs.Words.{labelByte}
 use Rattle.flow.specs.declared.context.Context.{Context}
@@ -21,11 +22,6 @@ use Rattle.flow.specs.Judge.{LabelsBelow, Lowest, watchersByte, sidesNum
 use Rattle.flow.proofs.ContextLaws.{label-atom, atom-byte, label-below}
 
 -- a set's numbers that pass a test
-same-truth : (a b : Bool) → (a ≡ true → b ≡ true) → (b ≡ true → a ≡ true) → a ≡ b
-same-truth true b f g = sym (f refl)
-same-truth false true f g = absurd (true≢false (sym (g refl)))
-same-truth false false f g = refl
-
 and-false : (a b : Bool) → b ≡ false → a && b ≡ false
 and-false true b e = e
 and-false false b e = refl

@@ -11,12 +11,11 @@ use Rattle.model.specs.Syntax.{Stmt}
 use Rattle.model.specs.Program.{Read as Reading, got, bad, variables, readProgram}
 use Rattle.model.specs.Flow.{outside, flow, bodyVerdict, programVerdict}
 use Rattle.model.proofs.Accepted.{accepted-facts}
-use Rattle.model.proofs.Reading.{program-fits}
+use Rattle.model.proofs.Reading.{ProgramParts, program-parts}
 use Rattle.order.specs.Table.{Knows}
 use Rattle.program.specs.declared.answer.Read.{Read}
 use Rattle.program.specs.declared.answer.Read.the-variants.{At, Bad}
 use Rattle.program.specs.Answer.{answerOf}
-use Rattle.model.proofs.Bodies.{ProgramParts, program-parts}
 use Rattle.flow.specs.declared.context.Context.{Context}
 use Rattle.flow.specs.declared.check.Around.{Around}
 use Rattle.flow.specs.declared.check.Checked.{Checked}
@@ -45,7 +44,6 @@ module _ (s p t : List ℕ) (P R n w : ℕ) (a : Around) (c : Context) (ok : Acc
   unfolding CheckedAt
   body-is x end h =
       let u = program-parts p (principals s) (roles s) h in
-      let v = program-fits p (principals s) (roles s) h in
       let at : 6 + 2 * w ≡ 6 + 2 * variables p = omega arith in
       f outside [] (λ side. []) x end (record {
         is-accepted = ok;
@@ -56,7 +54,7 @@ module _ (s p t : List ℕ) (P R n w : ℕ) (a : Around) (c : Context) (ok : Acc
         knows = k;
         surrounded = rw ea (refl, refl);
         context = rw ec (context-none (roles s));
-      }) (rw (e₁, e₂, e₃, at) (u .body-read)) (rw (e₁, e₂, e₃) (v .0))
+      }) (rw (e₁, e₂, e₃, at) (u .body-read)) (rw (e₁, e₂, e₃) (u .fits))
 
   pub body-fine : (m : ℕ) → o ≡ checked.Next m → BodyVerdict s p Fine
   unfolding BodyVerdict checkedOf verdictAs

@@ -22,7 +22,7 @@ use Rattle.model.proofs.Fits.{Each, each-cons, QueryFits, operandLimit,
 use Rattle.model.proofs.Fixed.{fixed-trans}
 use Rattle.model.proofs.Mutation.{mutate-fixed, mutate-accepted, allowed-fixed}
 use Rattle.model.proofs.Order.{JoinAtMost, join-derivable}
-use Rattle.model.proofs.Reading.{program-fits}
+use Rattle.model.proofs.Reading.{program-parts}
 use Rattle.model.proofs.Sets.{has-or-l, has-or-r, has-with, has-with-same}
 use Rattle.model.proofs.Truth.{both}
 
@@ -248,6 +248,6 @@ module _ (s p : List ℕ) where
     where
       go : Accepted s → (r : Read Stmt) → readProgram p (principals s) (roles s) ≡ r → bodyVerdict s p r ≡ fine → AcceptedProgram
       go good (got x end) e v =
-          let (fits, few) = program-fits p (principals s) (roles s) e in
-          record { policy = good; body = x; end = end; is-read = e; few = few; placed = record { fits = fits; surrounded = tt; flows = v } }
+          let u = program-parts p (principals s) (roles s) e in
+          record { policy = good; body = x; end = end; is-read = e; few = u .few; placed = record { fits = u .fits; surrounded = tt; flows = v } }
       go good (bad k place) e v = absurd (refused-not-fine k place v)

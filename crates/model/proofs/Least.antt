@@ -86,7 +86,7 @@ module _ (w : List ℕ) (row p : ℕ) where
       (λ t k. (n, omega arith, t, k)) h
 
 module _ (t : List ℕ) where
-  length-steps : (w : List ℕ) (n : ℕ) → length (steps t w n) ≡ length w
+  pub length-steps : (w : List ℕ) (n : ℕ) → length (steps t w n) ≡ length w
   unfolding steps
   length-steps w zero = refl
   length-steps w (suc n) = simp length-set (length-steps w n)

@@ -14,10 +14,10 @@ pub mod Order
 pub mod Semantics
 pub mod Verdict
 pub mod Fits
+pub mod Bodies
 pub mod Reading
 pub mod Refusals
 pub mod FlowParts
-pub mod Bodies
 pub mod RunRestart
 pub mod RunLaws
 pub mod RunPolicy

@@ -3,7 +3,7 @@ use Prim.Native.Nat.{ℕ, _+_, _-_, _^_, _<_, _≤_}
 use mathlib.Core.Path.{_≡_, refl, sym, ap, _∙_}
 use mathlib.Core.Logic.{inl, inr, ⊎-elim}
 use mathlib.Core.List.{List}
-use mathlib.Core.Bool.{Bool, true, false, _&&_, false≢true}
+use mathlib.Core.Bool.{Bool, true}
 use native.Mathlib.Omega.{arith}
 use native.Mathlib.Nat.{lt-of-lt-of-le, lt-of-le-of-lt, lt-trans}
 use native.Mathlib.Decide.{ℕ-discrete}
@@ -17,6 +17,7 @@ use Rattle.model.proofs.Accepted.{RowFacts, Facts, accepted-facts, fact
 use Rattle.model.proofs.Bytes.{length-put, byte-put-other, word-bytes, word-put-other, word-put, starts-put}
 use Rattle.model.proofs.Fixed.{may-take-fixed, may-hold-fixed}
 use Rattle.model.proofs.Sets.{has-below, within-has, has-within, with-has, with-below, without-has, without-le}
+use Rattle.model.proofs.Truth.{both}
 
 -- t is s but for bytes of row r's members and takes
 record Regranted (s t : List ℕ) (r : ℕ) : Type 0 where
@@ -164,10 +165,6 @@ takes-after s deleteTaken r x f l a = granted-without _ _ _ x (row-takes s r f)
 hold-both : (s : List ℕ) (i p : ℕ) → mayHold s i p ≡ true → (has (viewers s i) p ≡ true) × (has (trusters s i) p ≡ true)
 unfolding mayHold
 hold-both s i p = both (has (viewers s i) p) (has (trusters s i) p)
-  where
-    both : (a b : Bool) → (a && b) ≡ true → (a ≡ true) × (b ≡ true)
-    both true b h = (refl, h)
-    both false b h = absurd (false≢true h)
 
 -- a row with the fixed part of an accepted policy, and with members and takes that may be
 granted-row : (s t : List ℕ) (i : ℕ) → SameFixed s t → i < roles s → RowFacts s i

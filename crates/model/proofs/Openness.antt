@@ -15,7 +15,7 @@ use Rattle.model.specs.Flow.{atomLabel, queryLabel, listLabel}
 use Rattle.model.specs.Atoms.{atomSet, holds}
 use Rattle.model.specs.Run.{Update, broken}
 use Rattle.model.specs.Claim.{sees, Gains}
-use Rattle.model.proofs.Truth.{backwards}
+use Rattle.model.proofs.Truth.{backwards, true-or-false}
 use Rattle.model.proofs.Fits.{Each}
 use Rattle.model.proofs.Fixed.{fixed-refl, fixed-sym, fixed-trans, agree-refl, agree-sym, agree-trans}
 use Rattle.model.proofs.Least.{meaning-beyond}
@@ -23,7 +23,7 @@ use Rattle.model.proofs.Meaning.{meaning-watched, meaning-seen}
 use Rattle.model.proofs.Beyond.{watchers-same}
 use Rattle.model.proofs.Order.{JoinAtMost}
 use Rattle.model.proofs.Semantics.{holds-same, AllHold, join-hides}
-use Rattle.model.proofs.Sees.{two, clash, sees-more, no-gain-hides}
+use Rattle.model.proofs.Sees.{clash, sees-more, no-gain-hides}
 
 -- a side, a group, a program, and an accepted policy whose fixed part all policies here share
 pub record Setting : Type 0 where
@@ -105,7 +105,7 @@ unfolding isOpen atomSet
 open-same {S} n (role r) = ⊎-elim
     (λ o. rw (meaning-same n r o))
     (λ h. hidden-role (n .good1) r h ∙ sym (hidden-role (n .good2) r h))
-    (two (rowOpen S r))
+    (true-or-false (rowOpen S r))
 open-same n (fixed f) = open-fixed (n .good1) f ∙ sym (open-fixed (n .good2) f)
 
 -- F4: an update without a gain opens no hidden atom
@@ -132,7 +132,7 @@ hidden-or-open S s (x ∷ join) = ⊎-elim
     (λ f. inr (λ b i. ⊎-elim (λ e. rw e o) (λ j. f b j) (List·Memᴰ·cases-cons i)))
     (hidden-or-open S s join))
     (λ h. inl record { atom = x; among = List·Memᴰ·head refl; is-hidden = h })
-    (two (isOpen S s x))
+    (true-or-false (isOpen S s x))
 
 pub hidden-near : {S : Setting} {a b : List ℕ} {join : List Atom} → Near S a b → Hidden S a join → Hidden S b join
 hidden-near n h = record { atom = h .atom; among = h .among; is-hidden = sym (open-same n (h .atom)) ∙ h .is-hidden }

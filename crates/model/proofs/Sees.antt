@@ -1,38 +1,25 @@
 -- A group sees a set where their common part is not empty; so it sees more of a larger set, whoever it sees is in both, and an update without a gain shows it no meaning that it did not see before.
-use Prim.Native.Nat.{ℕ, zero, suc, _/_, _%_, _^_, _≤_, min}
+use Prim.Native.Nat.{ℕ, zero, suc, _/_, _≤_}
 use native.Mathlib.Nat.{div-one}
 use native.Mathlib.Omega.{arith}
 use mathlib.Core.Path.{_≡_, refl, sym}
-use mathlib.Core.Logic.{_⊎_, inl, inr, ⊎-elim}
+use mathlib.Core.Logic.{_⊎_, ⊎-elim}
 use mathlib.Core.Bool.{Bool, true, false, not, false≢true}
 use lib.Dec.{eqb}
-use lib.Bits.{bitAnd, and-step, and-shr}
+use lib.Bits.{bitAnd}
 use borrow.Author.Tests.{eq-eqb, eqb-true, eqb-false}
 use Rattle.model.specs.Sets.{has}
 use Rattle.model.specs.Meaning.{meaning}
 use Rattle.model.specs.Run.{Update}
 use Rattle.model.specs.Claim.{sees, Gains}
-use Rattle.model.proofs.Sets.{has-zero, half-has, subset-le}
+use Rattle.model.proofs.Sets.{has-zero, half-has, subset-le, has-and, and-has}
 use Rattle.model.proofs.Semantics.{Monotone}
-
--- a test is true or false
-pub two : (b : Bool) → (b ≡ true) ⊎ (b ≡ false)
-two true = inl refl
-two false = inr refl
+use Rattle.model.proofs.Truth.{true-or-false}
 
 pub clash : {A : Type 0} {b : Bool} → b ≡ true → b ≡ false → A
 clash e f = absurd (false≢true (rw e at (sym f)))
 
 ruleset bits = (arith, eqb-true, eqb-false, eq-eqb)
-
-bit-and : (a b i : ℕ) → bitAnd a b / 2 ^ i % 2 ≡ min (a / 2 ^ i % 2) (b / 2 ^ i % 2)
-bit-and a b i = rw (and-shr a b i) (omega (arith, and-step (a / 2 ^ i) (b / 2 ^ i)))
-
-has-and : (a b i : ℕ) → has a i ≡ true → has b i ≡ true → has (bitAnd a b) i ≡ true
-has-and a b i h k = omega (bits, bit-and a b i)
-
-and-has : (a b i : ℕ) → has (bitAnd a b) i ≡ true → (has a i ≡ true) × (has b i ≡ true)
-and-has a b i h = (omega (bits, bit-and a b i), omega (bits, bit-and a b i))
 
 -- a set is seen where the common part is not empty
 not-empty : (a : ℕ) → not (eqb a 0) ≡ true → a ≡ 0 → ⊥
@@ -58,7 +45,7 @@ member (suc n) a l h = ⊎-elim
     (λ e.
     let (i, k) = member n (a / 2) (omega arith) (λ z. h (omega (bits, div-one a))) in
     (suc i, rw (half-has a i) at k))
-    (two (has a 0))
+    (true-or-false (has a 0))
 
 pub sees-someone : (group set : ℕ) → sees group set ≡ true → (i : ℕ) × (has group i ≡ true) × (has set i ≡ true)
 sees-someone group set h =
@@ -78,4 +65,4 @@ no-gain-hides group u none r h =
     ⊎-elim
     (λ k. someone-sees group (meaning (u .before) r) i g k)
     (λ k. absurd (none record { role = r; principal = i; in-group = g; not-before = k; now-in = m }))
-    (two (has (meaning (u .before) r) i))
+    (true-or-false (has (meaning (u .before) r) i))

@@ -6,12 +6,13 @@ use native.Mathlib.Omega.{arith}
 use native.Mathlib.Decide.{decLt, ℕ-discrete}
 use mathlib.Core.Path.{_≡_, refl, sym, ap, _∙_}
 use mathlib.Core.Logic.{_⊎_, inl, inr, ⊎-elim}
-use mathlib.Core.Bool.{Bool, true, false, cond}
+use mathlib.Core.Bool.{Bool, true, false, cond, _||_}
 use lib.Dec.{eqb}
 use lib.Pow.{shr-shr, pow-lt, pow-mono}
 use lib.Bits.{bitAnd, bitOr, bitXor, differ, and-step, or-step, xor-step, and-shr, or-shr, xor-shr, and-le-l, and-le-r, and-comm, or-lt, xor-add-and}
 use borrow.Author.Tests.{eq-eqb, eqb-true, eqb-false}
 use Rattle.model.specs.Sets.{has, within, with, without}
+use Rattle.model.proofs.Truth.{true-or-false, either, or-left, or-right, same-truth}
 
 -- the bit at i
 abbrev bit : ℕ → ℕ → ℕ
@@ -40,10 +41,6 @@ same-bits (suc n) a b ha hb f =
     let e : a / 2 ≡ b / 2 = same-bits n (a / 2) (b / 2) (omega arith) (omega arith) (λ i. half-bit a i ∙ f (suc i) ∙ sym (half-bit b i)) in
     omega (arith, f 0, div-one a, div-one b)
 
-true-or-false : (b : Bool) → (b ≡ true) ⊎ (b ≡ false)
-true-or-false true = inl refl
-true-or-false false = inr refl
-
 pub has-zero : (i : ℕ) → has 0 i ≡ false
 has-zero i = rw (zero-div (2 ^ i))
 
@@ -56,6 +53,18 @@ has-or-r a b i h = omega (bits, bit-or a b i)
 
 pub or-has : (a b i : ℕ) → has (bitOr a b) i ≡ true → (has a i ≡ true) ⊎ (has b i ≡ true)
 or-has a b i h = ⊎-elim inl (λ n. inr (omega (bits, bit-or a b i))) (true-or-false (has a i))
+
+pub has-or : (a b i : ℕ) → has (bitOr a b) i ≡ has a i || has b i
+has-or a b i =
+    same-truth (has (bitOr a b) i) (has a i || has b i)
+    (λ h. ⊎-elim (or-left (has a i) (has b i)) (or-right (has a i) (has b i)) (or-has a b i h))
+    (λ h. ⊎-elim (has-or-l a b i) (has-or-r a b i) (either (has a i) (has b i) h))
+
+pub has-and : (a b i : ℕ) → has a i ≡ true → has b i ≡ true → has (bitAnd a b) i ≡ true
+has-and a b i h k = omega (bits, bit-and a b i)
+
+pub and-has : (a b i : ℕ) → has (bitAnd a b) i ≡ true → (has a i ≡ true) × (has b i ≡ true)
+and-has a b i h = (omega (bits, bit-and a b i), omega (bits, bit-and a b i))
 
 -- inclusion is that every member of a is one of b
 pub within-has : (a b i : ℕ) → within a b ≡ true → has a i ≡ true → has b i ≡ true
@@ -106,12 +115,16 @@ power-only zero (suc j) n = sym (half-bit 1 j) ∙ rw (zero-div (2 ^ j))
 power-only (suc i) zero n = omega (arith, pow-suc 2 i, div-one (2 ^ suc i))
 power-only (suc i) (suc j) n = sym (half-bit (2 ^ suc i) j) ∙ rw half-power (power-only i j (λ e. n (ap suc e)))
 
-power-is : (i j : ℕ) → has (2 ^ i) j ≡ true → j ≡ i
+pub power-is : (i j : ℕ) → has (2 ^ i) j ≡ true → j ≡ i
 power-is i j h = go (ℕ-discrete j i)
   where
     go : Dec (j ≡ i) → j ≡ i
     go (yes e) = e
     go (no n) = absurd (omega (bits, power-only i j n))
+
+-- the only member of a power is its exponent
+pub has-power : (j i : ℕ) → has (2 ^ j) i ≡ eqb i j
+has-power j i = same-truth (has (2 ^ j) i) (eqb i j) (λ h. eq-eqb i j (power-is j i h)) (λ h. let e = eqb-true i j h in rw e (eq-eqb _ 1 (power-has j)))
 
 -- membership in the set with i
 pub has-with-same : (a i : ℕ) → has (with a i) i ≡ true

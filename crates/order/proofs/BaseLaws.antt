@@ -16,12 +16,12 @@ use Rattle.model.specs.Policy.{Side, reading, trust, principals, roles, rowAt, 
 use Rattle.model.specs.Syntax.{Fixed, of, everyone, Atom, role, fixed}
 use Rattle.model.specs.Order.{fixedSet, includes, base, atMost}
 use Rattle.model.proofs.Below.{last-or}
-use Rattle.model.proofs.Sets.{has-zero, has-with, has-with-same, with-has}
+use Rattle.model.proofs.Sets.{has-zero, has-with, has-with-same, with-has, has-power}
 use Rattle.model.proofs.Accepted.{accepted-facts}
 use Rattle.order.specs.declared.rows.Row.{Row}
 use Rattle.order.specs.Table.{tableWords, rowOf, rowIn, holds, rowHas, AtomBelow, sideOf, Knows}
 use Rattle.order.specs.Rows.{putRow, union, withRole, holders, fixedRow, RoleRows, Based}
-use Rattle.order.proofs.Truth.{same-truth, has-power}
+use Rattle.model.proofs.Truth.{same-truth}
 use Rattle.order.proofs.RowLaws.{put-long, put-same, put-other, holds-union}
 
 -- the watchers that a flag names

@@ -13,19 +13,19 @@ use Rattle.model.proofs.Accepted.{accepted-facts}
 use Rattle.order.specs.declared.rows.Row.{Row}
 use Rattle.order.specs.Table.{rowOf, rowIn, holds, AtomBelow, Knows, Joins, JoinBelow, sideOf, Decides}
 use Rattle.order.specs.Rows.{atomOf}
-use Rattle.order.proofs.Truth.{same-truth, and-true, true-and}
+use Rattle.model.proofs.Truth.{same-truth, both, and-both}
 use Rattle.order.proofs.RowLaws.{atom-of}
 
 -- a join is at most b exactly when each of its atoms is
 each-below : (s : List ℕ) (known : List Query) (join : List Atom) (b : Atom) → joinAtMost s known join b ≡ true → (a : Atom) → List·Memᴰ a join → atMost s known a b ≡ true
 unfolding joinAtMost
-each-below s known (x ∷ join) b h a (List·Memᴰ·head e) = rw e (and-true (atMost s known x b) (joinAtMost s known join b) h .0)
-each-below s known (x ∷ join) b h a (List·Memᴰ·tail m) = each-below s known join b (and-true (atMost s known x b) (joinAtMost s known join b) h .1) a m
+each-below s known (x ∷ join) b h a (List·Memᴰ·head e) = rw e (both (atMost s known x b) (joinAtMost s known join b) h .0)
+each-below s known (x ∷ join) b h a (List·Memᴰ·tail m) = each-below s known join b (both (atMost s known x b) (joinAtMost s known join b) h .1) a m
 
 below-each : (s : List ℕ) (known : List Query) (join : List Atom) (b : Atom) → ((a : Atom) → List·Memᴰ a join → atMost s known a b ≡ true) → joinAtMost s known join b ≡ true
 unfolding joinAtMost
 below-each s known [] b f = refl
-below-each s known (x ∷ join) b f = true-and _ _ (f x (List·Memᴰ·head refl)) (below-each s known join b (λ a m. f a (List·Memᴰ·tail m)))
+below-each s known (x ∷ join) b f = and-both _ _ (f x (List·Memᴰ·head refl)) (below-each s known join b (λ a m. f a (List·Memᴰ·tail m)))
 
 -- a row's word for a side
 abbrev watched : Side → Row → ℕ
@@ -57,8 +57,8 @@ module _ (s : List ℕ) (known : List Query) (t : List ℕ) (knows : Knows s kno
 
   row-decides : within rs (r .roles) && within ws (watched side r) ≡ joinAtMost s known join b
   row-decides =
-      same-truth _ _ (λ h. let (p, q) = and-true (within rs (r .roles)) (within ws (watched side r)) h in below-each s known join b (row-each p q))
-      (λ h. true-and _ _ (each-role h) (each-watched h))
+      same-truth _ _ (λ h. let (p, q) = both (within rs (r .roles)) (within ws (watched side r)) h in below-each s known join b (row-each p q))
+      (λ h. and-both _ _ (each-role h) (each-watched h))
 
 -- the target's row was read, and b says whether the join's roles lie in it
 module _ (t : List ℕ) (y k rs ws : ℕ) (r : Row) (b : Bool) (e : k ≡ rowOf (atomOf y)) (d : r ≡ rowIn t k) (g : b ≡ within rs (r .roles)) where

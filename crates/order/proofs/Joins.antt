@@ -6,20 +6,16 @@ use mathlib.Core.Logic.{⊎-elim}
 use mathlib.Core.Bool.{true, true≢false, _&&_, and-assoc}
 use native.Mathlib.Omega.{arith}
 use lib.Bits.{bitOr}
-use borrow.Author.Tests.{eq-eqb, eqb-true}
+use borrow.Author.Tests.{eq-eqb}
 use Rattle.model.specs.Sets.{has}
 use Rattle.model.specs.Policy.{Side}
 use Rattle.model.specs.Syntax.{Fixed, of, everyone, Atom, role, fixed, Query, atomByte}
 use Rattle.model.specs.Order.{atMost, joinAtMost}
 use Rattle.model.specs.Flow.{atomLabel, queryLabel, listLabel}
-use Rattle.model.proofs.Sets.{has-zero, has-or-l, has-or-r, or-has}
+use Rattle.model.proofs.Sets.{has-zero, has-or-l, has-or-r, or-has, has-power, power-is}
 use Rattle.order.specs.Table.{AtomBelow, QueryBelow, Joins, JoinBelow, namedRole, queryRoles, listRoles}
 use Rattle.order.specs.Rows.{atomOf}
-use Rattle.order.proofs.Truth.{has-power}
 use Rattle.order.proofs.RowLaws.{atom-of}
-
-power-is : (j i : ℕ) → has (2 ^ j) i ≡ true → i ≡ j
-power-is j i h = eqb-true i j (sym (has-power j i) ∙ h)
 
 power-has : (j i : ℕ) → i ≡ j → has (2 ^ j) i ≡ true
 power-has j i e = has-power j i ∙ eq-eqb i j e

@@ -1,4 +1,3 @@
-mod Truth
 mod RowLaws
 mod BaseLaws
 mod LearnLaws

@@ -4,9 +4,7 @@ use Prim.Native.Nat.{ℕ, _+_, _-_, _*_, _%_, _^_, _<_, _≤_}
 use mathlib.Core.List.{List}
 use mathlib.Core.Bool.{Bool, true, _||_}
 use native.Mathlib.Omega.{arith}
-use native.Mathlib.Nat.{one-mul}
 use native.Mathlib.Decide.{decLt}
-use lib.Pow.{shl-exact}
 use lib.Bits.{bitOr}
 use lib.ListN.{length, getD, set, length-set}
 use lib.Seq.{getD-set-same, getD-set-other}
@@ -14,10 +12,10 @@ use borrow.Author.Tests.{lt-ltb, le-ltb}
 use Rattle.model.specs.Sets.{has}
 use Rattle.model.specs.Policy.{reading, trust}
 use Rattle.model.specs.Syntax.{of, everyone, Atom, role, fixed, atomByte}
+use Rattle.model.proofs.Sets.{has-or}
 use Rattle.order.specs.declared.rows.Row.{Row}
 use Rattle.order.specs.Table.{tableWords, tableRows, rowOf, rowIn, holds, AtomBelow, namedRole}
 use Rattle.order.specs.Rows.{atomOf, putRow, union, withRole}
-use Rattle.order.proofs.Truth.{has-or}
 
 -- the atom of a byte, by the code's tests
 module _ (x : ℕ) where
@@ -94,10 +92,6 @@ holds-union r l (role j) = has-or (r .roles) (l .roles) j
 holds-union r l (fixed (of reading j)) = has-or (r .viewers) (l .viewers) j
 holds-union r l (fixed (of trust j)) = has-or (r .trusters) (l .trusters) j
 holds-union r l (fixed everyone) = refl
-
--- one shifted within 64 bits is the power
-pub shifted : (j : ℕ) → j < 64 → 1 * 2 ^ j % 2 ^ 64 ≡ 2 ^ j
-shifted j h = shl-exact 1 j 64 (omega arith) (omega arith) ∙ one-mul (2 ^ j)
 
 -- three words written are a row
 pub written : (t : List ℕ) (y : ℕ) (r : Row) → set (set (set t (3 * y) (r .roles)) (3 * y + 1) (r .viewers)) (3 * y + 2) (r .trusters) ≡ putRow t y r

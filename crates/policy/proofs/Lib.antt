@@ -1,4 +1,4 @@
-mod SetLaws
+pub mod SetLaws
 mod ByteLaws
 mod RowLaws
 mod CheckLaws

@@ -7,7 +7,7 @@ use mathlib.Core.Bool.{Bool, true, false, true≢false}
 use native.Mathlib.Omega.{arith}
 use native.Mathlib.Numerals.{add-one}
 use lib.Bits.{bitOr, or-zero-r}
-use lib.ListN.{length, getD, set, take, length-set}
+use lib.ListN.{length, getD, set, take}
 use lib.Seq.{set-getD, take-suc-set, take-all, length-take-le}
 use borrow.Author.Tests.{lt-ltb, le-ltb, eq-eqb, ne-eqb}
 use Rattle.model.specs.Sets.{has, without}
@@ -15,7 +15,7 @@ use Rattle.model.specs.Policy.{roles, rowAt, members, takes, Accepted, policyNu
 use Rattle.model.specs.Meaning.{gather, grown, steps, rounds, column, meanings, meaning, answer, meaningOf}
 use Rattle.model.proofs.Accepted.{accepted-facts}
 use Rattle.model.proofs.Sets.{has-zero, has-or-l, has-or-r, or-has, same-sets, or-assoc, has-below, has-without, without-has, without-le}
-use Rattle.model.proofs.Least.{In, gather-has, has-gather, column-length, column-at}
+use Rattle.model.proofs.Least.{In, gather-has, has-gather, length-steps, column-length, column-at}
 use Rattle.policy.proofs.SetLaws.{next-without}
 use Rattle.policy.proofs.TakesLaws.{same-or, smaller}
 use Rattle.policy.specs.Rounds.{Still, Fitting}
@@ -58,11 +58,6 @@ pub ruleset unions = (union-turn, union-done, union-inside, union-fits, smaller,
 
 -- a round, row by row
 module _ (t old : List ℕ) where
-  pub length-steps : (i : ℕ) → length (steps t old i) ≡ length old
-  unfolding steps
-  length-steps zero = refl
-  length-steps (suc i) = simp length-set (length-steps i)
-
   pub steps-none : old ≡ steps t old 0
   unfolding steps
   steps-none = refl

@@ -1,16 +1,14 @@
 -- Words as sets: the set of one number, and unions in any order.
-use mathlib.Core.Path.{_≡_, _∙_}
+use mathlib.Core.Path.{_≡_}
 use Prim.Native.Nat.{ℕ, _*_, _%_, _^_, _<_, _≤_}
-use native.Mathlib.Omega.{arith}
-use native.Mathlib.Nat.{one-mul}
-use lib.Pow.{shl-exact}
 use borrow.Author.Tests.{lt-ltb, le-ltb}
 use Rattle.walk.specs.Words.{single}
+use Rattle.policy.proofs.SetLaws.{shifted}
 
 -- the set of one number
 pub single-low : (i w : ℕ) → i < 64 → w ≡ i → 1 * 2 ^ w % 2 ^ 64 ≡ single i
 unfolding single
-single-low i w h e = rw e (simp (lt-ltb _ _ h) (shl-exact 1 i 64 (omega arith) (omega arith) ∙ one-mul (2 ^ i)))
+single-low i w h e = rw e (simp (lt-ltb _ _ h) (shifted i h))
 
 pub single-high : (i : ℕ) → 64 ≤ i → 0 ≡ single i
 unfolding single

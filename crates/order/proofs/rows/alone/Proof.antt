@@ -1,4 +1,4 @@
-use Rattle.order.proofs.RowLaws.{shifted}
+use Rattle.policy.proofs.SetLaws.{shifted}
 use borrow.Author.Needs.{needs}
 use Rattle.order.proofs.rows.alone.Statement.{statement}
 use Rattle.order.proofs.rows.alone.Tie as tie
