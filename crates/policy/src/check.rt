@@ -113,7 +113,7 @@ fn rows_number(s: &[u8], n: usize) -> u32
     requires { ⌜ (rowAt n ≤ length (now s)) × (principals (now s) ≤ 32) ⌝ }
     ensures { λ r. ⌜ r ≡ firstBelow (rowNumber (now (s .entry))) n ⌝ }
 {
-    let mut seen = [0u64; 128];
+    let mut seen = [0u64; pairs::WORDS];
     each_row_number(s, n, &mut seen)
 }
 
@@ -145,7 +145,7 @@ fn each_taken_number(s: &[u8], i: usize, n: usize) -> u32
     number::ACCEPTED
 }
 
-// 6: row i takes in only roles that there are, and that it may. Those that it is known to may are not visited.
+// 6: row i takes in only roles that there are, and that it may. Where all that it takes are known to be such, none is visited.
 fn takes_number(s: &[u8], i: usize, n: usize, known: u64) -> u32
     requires { ⌜ (rowAt n ≤ length (now s)) × (i < n) × Takable (now s) i known ⌝ }
     ensures { λ r. ⌜ r ≡ takesNumber (now (s .entry)) i n ⌝ }

@@ -10,6 +10,9 @@ use super::number;
 use super::rows;
 use super::sets;
 
+// 64 bits a word, for 32 owners of 256 names each.
+pub const WORDS: usize = 128;
+
 // Owner and name of row i as one number.
 fn pair_of(s: &[u8], i: usize) -> usize
     requires { ⌜ rowAt i + 22 ≤ length (now s) ⌝ }
