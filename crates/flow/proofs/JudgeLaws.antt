@@ -21,11 +21,11 @@ use Rattle.flow.specs.declared.context.Context.{Context}
 use Rattle.flow.specs.Judge.{LabelsBelow, Lowest, watchersByte, sidesNumber, Asked, BelowSide, labelsAbove, watchersAbove, VariablesBelow, RolesBelow, MayWrite, WriteNumber, AssignNumber}
 use Rattle.flow.proofs.ContextLaws.{label-atom, atom-byte, label-below}
 
--- a set's numbers that pass a test
 and-false : (a b : Bool) → b ≡ false → a && b ≡ false
 and-false true b e = e
 and-false false b e = refl
 
+-- a set's numbers that pass a test
 module _ (f : ℕ → Bool) (a : ℕ) where
   each-none : (n : ℕ) → a ≤ 0 → eachIn a f n ≡ true
   unfolding eachIn

@@ -1,11 +1,10 @@
--- Words as sets: the set of one number, and unions in any order.
+-- A word as the set of one number.
 use mathlib.Core.Path.{_≡_}
 use Prim.Native.Nat.{ℕ, _*_, _%_, _^_, _<_, _≤_}
 use borrow.Author.Tests.{lt-ltb, le-ltb}
 use Rattle.walk.specs.Words.{single}
 use Rattle.policy.proofs.SetLaws.{shifted}
 
--- the set of one number
 pub single-low : (i w : ℕ) → i < 64 → w ≡ i → 1 * 2 ^ w % 2 ^ 64 ≡ single i
 unfolding single
 single-low i w h e = rw e (simp (lt-ltb _ _ h) (shifted i h))
