@@ -41,13 +41,13 @@ module _ (s : List ℕ) (i j v w : ℕ) (q : v ≡ viewers s i) (e : w ≡ viewe
 pub ruleset take-laws = (viewers-differ, trusters-decide)
 
 -- whether row i may have principal x as a member; v and t are its viewers and trusters
-module _ (s : List ℕ) (i x v : ℕ) (a : Bool) (q : v ≡ viewers s i) (d : a ≡ has v x) where
+module _ (s : List ℕ) (i x v : ℕ) (a : Bool) (d : a ≡ has v x) (q : v ≡ viewers s i) where
   pub no-viewer : a ≡ false → false ≡ mayHold s i x
   unfolding mayHold
   no-viewer f = let g : has (viewers s i) x ≡ false = rw (← q) (sym d ∙ f) in simp g
 
-  pub truster-decides : a ≡ true → (t : ℕ) (b : Bool) → t ≡ trusters s i → b ≡ has t x → b ≡ mayHold s i x
+  pub truster-decides : a ≡ true → (t : ℕ) (b : Bool) → b ≡ has t x → t ≡ trusters s i → b ≡ mayHold s i x
   unfolding mayHold
-  truster-decides f t b y e = let g : has (viewers s i) x ≡ true = rw (← q) (sym d ∙ f) in simp g (rw y at e)
+  truster-decides f t b e y = let g : has (viewers s i) x ≡ true = rw (← q) (sym d ∙ f) in simp g (rw y at e)
 
 pub ruleset hold-laws = (no-viewer, truster-decides, not-true, not-false)
