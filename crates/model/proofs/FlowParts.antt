@@ -1,7 +1,7 @@
 -- An accepted statement keeps its rule and its parts are accepted where they stand, since a verdict is fine only where all that it is chosen from is; and a part assigns and mutates no more than the whole.
 use Prim.Native.Nat.{ℕ, zero, suc, _<_, _≤_}
 use native.Mathlib.Omega.{arith}
-use mathlib.Core.Path.{_≡_, refl}
+use mathlib.Core.Path.{_≡_, refl, sym, _∙_}
 use mathlib.Core.Logic.{⊎-elim}
 use mathlib.Core.List.{List, [], _∷_, List·Memᴰ, List·Memᴰ·head, List·Memᴰ·tail, List·Memᴰ·not-nil}
 use mathlib.Core.Bool.{Bool, true, false}
@@ -113,7 +113,7 @@ module _ {s a : List ℕ} {rs : ℕ} {m : Mutation} (h : Mutates s rs m) (same :
   pub mutates-accepted : Accepted a → Accepted (mutate a (m .kind) (m .role) (m .operand))
   mutates-accepted ok =
       mutate-accepted a (m .kind) (m .role) (m .operand) ok mutates-role mutates-operand
-      (rw (allowed-fixed same (m .kind) (m .role) (m .operand) (h .role-below) (h .operand-below)) at (h .is-allowed))
+      (sym (allowed-fixed same (m .kind) (m .role) (m .operand) (h .role-below) (h .operand-below)) ∙ h .is-allowed)
 
   pub mutates-fixed : SameFixed s (mutate a (m .kind) (m .role) (m .operand))
   mutates-fixed = fixed-trans same (mutate-fixed a (m .kind) (m .role) (m .operand))
