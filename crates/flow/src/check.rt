@@ -13,6 +13,7 @@ use super::judge;
 use super::lists;
 use policy::bytes;
 use policy::number;
+use program::limit;
 use walk::labels;
 use walk::positions;
 use walk::writes;
@@ -73,7 +74,7 @@ fn check_assign(p: &[u8], table: &[u64; 579], sizes: Sizes, context: Context, at
     let labels = labels::expr_labels(
         p,
         sizes.vars,
-        positions::EXPRESSION_DEPTH,
+        limit::EXPRESSION_DEPTH,
         positions::ahead(p, at, 2),
     );
     let next = labels.next;
@@ -233,7 +234,7 @@ fn check_if(
     let labels = labels::expr_labels(
         p,
         sizes.vars,
-        positions::EXPRESSION_DEPTH,
+        limit::EXPRESSION_DEPTH,
         positions::ahead(p, at, 1),
     );
     let start = labels.next;
@@ -258,7 +259,7 @@ fn check_while(
     let labels = labels::expr_labels(
         p,
         sizes.vars,
-        positions::EXPRESSION_DEPTH,
+        limit::EXPRESSION_DEPTH,
         positions::ahead(p, at, 1),
     );
     let start = labels.next;

@@ -1,15 +1,13 @@
 -- An accepted policy ends with its last row, so what a later role would have reads as 0: nobody watches it, in whichever policy.
-use Prim.Native.Nat.{ℕ, zero, suc, _+_, _^_, _<_, _≤_}
+use Prim.Native.Nat.{ℕ, zero, suc, _+_, _<_, _≤_}
 use native.Mathlib.Omega.{arith}
 use native.Mathlib.Decide.{decLt}
 use mathlib.Core.Path.{_≡_, refl, sym, _∙_}
 use mathlib.Core.List.{List}
 use lib.ListN.{length, List·getD-eq-default}
-use lib.Pow.{pow-pos}
 use Rattle.model.specs.Bytes.{word}
-use Rattle.model.specs.Policy.{principals, roles, rowAt, viewers, trusters, Side, reading, trust, watchers, Accepted, SameFixed}
+use Rattle.model.specs.Policy.{roles, rowAt, viewers, trusters, Side, reading, trust, watchers, Accepted, SameFixed}
 use Rattle.model.proofs.Accepted.{accepted-facts}
-use Rattle.model.proofs.Meaning.{watchers-below}
 
 word-beyond : (s : List ℕ) (at n : ℕ) → length s ≤ at → word s at n ≡ 0
 unfolding word
@@ -22,14 +20,6 @@ pub watchers-beyond : (side : Side) (s : List ℕ) → Accepted s → (j : ℕ) 
 unfolding watchers viewers trusters
 watchers-beyond reading s ok j l = word-beyond s (rowAt j + 2) 4 (omega (arith, accepted-facts s ok .long))
 watchers-beyond trust s ok j l = word-beyond s (rowAt j + 6) 4 (omega (arith, accepted-facts s ok .long))
-
--- watchers are principals that there are
-pub watchers-exist : (side : Side) (s : List ℕ) → Accepted s → (j : ℕ) → watchers side s j < 2 ^ principals s
-watchers-exist side s ok j = go (decLt j (roles s))
-  where
-    go : Dec (j < roles s) → watchers side s j < 2 ^ principals s
-    go (yes l) = watchers-below s ok j l side
-    go (no n) = let q : roles s ≤ j = omega arith in rw (watchers-beyond side s ok j q) (pow-pos (principals s))
 
 -- watchers are of the fixed part
 pub watchers-same : (a b : List ℕ) → Accepted a → Accepted b → SameFixed a b → (side : Side) (j : ℕ) → watchers side a j ≡ watchers side b j

@@ -1,20 +1,16 @@
 -- In an accepted policy members watch their role and taken roles have its watchers, so by leastness whoever a role means watches it, and its meaning depends only on rows with its watchers.
-use Prim.Native.Nat.{ℕ, _^_, _<_, _≤_}
-use native.Mathlib.Nat.{lt-of-le-of-lt}
-use native.Mathlib.Omega.{arith}
-use native.Mathlib.Decide.{decLt}
+use Prim.Native.Nat.{ℕ, _^_, _<_}
 use mathlib.Core.Path.{_≡_, refl, sym, _∙_}
 use mathlib.Core.List.{List}
 use mathlib.Core.Bool.{Bool, true, and-eq-true-iff}
 use lib.Dec.{eqb}
-use lib.Pow.{pow-pos}
 use borrow.Author.Tests.{eqb-true}
 use Rattle.model.specs.Sets.{has}
 use Rattle.model.specs.Policy.{principals, roles, viewers, trusters, members, takes, Side, reading, trust, watchers, mayTake, Accepted, SameFixed, Agree}
 use Rattle.model.specs.Meaning.{meaning}
-use Rattle.model.proofs.Sets.{within-has, subset-le, same-sets}
+use Rattle.model.proofs.Sets.{within-has, same-sets}
 use Rattle.model.proofs.Accepted.{accepted-facts}
-use Rattle.model.proofs.Least.{meaning-closed, meaning-least, meaning-beyond}
+use Rattle.model.proofs.Least.{meaning-closed, meaning-least}
 
 pub may-take : (s : List ℕ) (i j : ℕ) → mayTake s i j ≡ true → (viewers s i ≡ viewers s j) × (trusters s i ≡ trusters s j)
 unfolding mayTake
@@ -52,14 +48,6 @@ meaning-watched side s ok = meaning-least s (λ r p. has (watchers side s r) p �
   own = λ r p l h. member-watches s ok r l side p h;
   taken = λ r j p l k t h. rw (taken-watchers s ok r l side j k t) h;
 })
-
--- a meaning names only principals that there are
-pub meaning-below : (s : List ℕ) → Accepted s → (r : ℕ) → meaning s r < 2 ^ principals s
-meaning-below s ok r = go (decLt r (roles s))
-  where
-    go : Dec (r < roles s) → meaning s r < 2 ^ principals s
-    go (yes l) = lt-of-le-of-lt (subset-le (meaning s r) (watchers reading s r) (meaning-watched reading s ok r)) (watchers-below s ok r l reading)
-    go (no k) = let q : roles s ≤ r = omega arith in rw (meaning-beyond s r q) (pow-pos (principals s))
 
 -- where takes do not lead out of a part of the roles and two policies agree on that part, each means there what the other does
 module _ (a b : List ℕ) (Part : ℕ → Type 0) (n : roles a ≡ roles b)

@@ -1,18 +1,15 @@
 -- With no query known the test is reflexive, transitive and holds every edge; one more query adds what passes through it, and that is transitive again: so the test is the least relation.
 use Prim.Native.Nat.{ℕ}
-use native.Mathlib.Nat.{mod-eq-of-lt}
 use mathlib.Core.Path.{_≡_, refl, sym, _∙_}
 use mathlib.Core.Logic.{_⊎_, inl, inr, ⊎-elim}
 use mathlib.Core.List.{List, [], _∷_, _++_, List·Memᴰ, List·Memᴰ·head, List·Memᴰ·tail}
 use mathlib.Core.Bool.{true, false, _&&_, false≢true, and-assoc}
-use lib.Bits.{and-mask}
 use borrow.Author.Tests.{eq-eqb, eqb-true}
 use Rattle.model.specs.Sets.{within}
-use Rattle.model.specs.Policy.{principals, Side, reading, trust, watchers, Accepted}
-use Rattle.model.specs.Syntax.{Fixed, of, everyone, Atom, role, fixed, Query}
+use Rattle.model.specs.Policy.{Side, reading, trust}
+use Rattle.model.specs.Syntax.{Fixed, of, Atom, role, fixed, Query}
 use Rattle.model.specs.Order.{fixedSet, includes, AtMost, same, chain, asked, own, lies, base, atMost, joinAtMost}
 use Rattle.model.proofs.Sets.{within-has, has-within}
-use Rattle.model.proofs.Beyond.{watchers-exist}
 use Rattle.model.proofs.Truth.{either, or-left, or-right, both, and-both}
 
 -- only which queries are known counts, not how they are listed: more known, more derived
@@ -149,15 +146,3 @@ module _ (s : List ℕ) where
   unfolding joinAtMost
   join-append known [] k b = refl
   join-append known (a ∷ j) k b = rw (join-append known j k b) (sym (and-assoc (atMost s known a b) (joinAtMost s known j b) (joinAtMost s known k b)))
-
-  -- everyone is at most every atom of an accepted policy, since watchers are principals
-  everyone-includes : Accepted s → (f : Fixed) → includes s everyone f ≡ true
-  unfolding includes fixedSet
-  everyone-includes ok (of side j) =
-      eq-eqb _ (watchers side s j) (and-mask (watchers side s j) (principals s) ∙ mod-eq-of-lt (watchers-exist side s ok j))
-  everyone-includes ok everyone = includes-refl everyone
-
-  pub everyone-least : Accepted s → (known : List Query) (b : Atom) → atMost s known (fixed everyone) b ≡ true
-  unfolding base
-  everyone-least ok known (role j) = passes-base known (fixed everyone) (role j) (side-role everyone j reading (everyone-includes ok (of reading j)))
-  everyone-least ok known (fixed f) = passes-base known (fixed everyone) (fixed f) (everyone-includes ok f)

@@ -6,6 +6,7 @@ ghost use Prim.Native.Nat.{_-_};
 ghost use Rattle.walk.specs.Bodies.{noneFound, FoundAt, FoundInPair, FoundInBlock, FoundInBody};
 use super::positions;
 use super::writes;
+use program::limit;
 
 // The body's place and size where it was found; else where the statement ends and how many transactions are still to pass.
 pub struct Found {
@@ -58,18 +59,15 @@ pub fn find_body(
     match positions::byte_at(p, at) {
         1 => {
             let value = positions::ahead(p, at, 2);
-            missing(
-                positions::after_expr(p, positions::EXPRESSION_DEPTH, value),
-                k,
-            )
+            missing(positions::after_expr(p, limit::EXPRESSION_DEPTH, value), k)
         }
         2 => find_in_block(p, principals, roles, vars, inner, next, k),
         3 => {
-            let first = positions::after_expr(p, positions::EXPRESSION_DEPTH, next);
+            let first = positions::after_expr(p, limit::EXPRESSION_DEPTH, next);
             find_in_pair(p, principals, roles, vars, inner, first, k)
         }
         4 => {
-            let body = positions::after_expr(p, positions::EXPRESSION_DEPTH, next);
+            let body = positions::after_expr(p, limit::EXPRESSION_DEPTH, next);
             find_body(p, principals, roles, vars, inner, body, k)
         }
         5 => find_in_pair(

@@ -6,9 +6,6 @@ ghost use Rattle.model.specs.Bytes.{byte};
 ghost use Rattle.walk.specs.Positions.{ahead, afterList, ExprEnds};
 use policy::bytes;
 
-// How deep an expression may go.
-pub const EXPRESSION_DEPTH: u8 = 16;
-
 pub const QUERY_BYTES: usize = 2;
 
 pub const MUTATION_BYTES: usize = 3;

@@ -5,6 +5,7 @@ ghost use mathlib.Core.Path.{_≡_};
 ghost use Rattle.walk.specs.Writes.{bothWrites, WritesAt, PairWrites, BlockWrites, UpdateWrites};
 use super::positions;
 use super::words;
+use program::limit;
 
 // Where the statement ends, and the words of what it writes.
 pub struct Writes {
@@ -59,17 +60,17 @@ pub fn stmt_writes(p: &[u8], principals: u8, roles: u8, vars: u8, depth: u8, at:
     let next = positions::ahead(p, at, 1);
     match positions::byte_at(p, at) {
         1 => Writes {
-            next: positions::after_expr(p, positions::EXPRESSION_DEPTH, positions::ahead(p, at, 2)),
+            next: positions::after_expr(p, limit::EXPRESSION_DEPTH, positions::ahead(p, at, 2)),
             variables: words::single(positions::byte_at(p, next)),
             roles: 0,
         },
         2 => block_writes(p, principals, roles, vars, inner, next),
         3 => {
-            let first = positions::after_expr(p, positions::EXPRESSION_DEPTH, next);
+            let first = positions::after_expr(p, limit::EXPRESSION_DEPTH, next);
             pair_writes(p, principals, roles, vars, inner, first)
         }
         4 => {
-            let body = positions::after_expr(p, positions::EXPRESSION_DEPTH, next);
+            let body = positions::after_expr(p, limit::EXPRESSION_DEPTH, next);
             stmt_writes(p, principals, roles, vars, inner, body)
         }
         5 => pair_writes(
