@@ -11,6 +11,7 @@ use super::context;
 use super::context::Context;
 use super::judge;
 use super::lists;
+use order::rows;
 use policy::bytes;
 use policy::number;
 use program::limit;
@@ -66,7 +67,13 @@ fn answer(number: u32, at: usize, next: usize) -> Checked
 }
 
 // Context and expression label are at most the variable's label.
-fn check_assign(p: &[u8], table: &[u64; 579], sizes: Sizes, context: Context, at: usize) -> Checked
+fn check_assign(
+    p: &[u8],
+    table: &[u64; rows::TABLE_WORDS],
+    sizes: Sizes,
+    context: Context,
+    at: usize,
+) -> Checked
     requires { ⌜ length (now table) ≡ tableWords ⌝ }
     ensures { λ r. ⌜ AssignAt (now (p .entry)) (now (table .entry)) sizes context at r ⌝ }
 {
@@ -87,7 +94,7 @@ fn check_assign(p: &[u8], table: &[u64; 579], sizes: Sizes, context: Context, at
 fn check_update(
     policy: &[u8],
     p: &[u8],
-    table: &[u64; 579],
+    table: &[u64; rows::TABLE_WORDS],
     around: Around,
     context: Context,
     at: usize,
@@ -130,7 +137,7 @@ fn entered(p: &[u8], sizes: Sizes, depth: u8, at: usize) -> Around
 }
 
 // The table with one more query known.
-fn learnt(table: &[u64; 579], roles: u8, first: u8, second: u8) -> [u64; 579]
+fn learnt(table: &[u64; rows::TABLE_WORDS], roles: u8, first: u8, second: u8) -> [u64; 579]
     requires { ⌜ (length (now table) ≡ tableWords) × (roles ≤ 64) ⌝ }
     ensures long { λ r. ⌜ length r ≡ tableWords ⌝ }
     ensures known { λ r. ⌜ Learnt roles (now (table .entry)) r first second ⌝ }
@@ -144,7 +151,7 @@ fn learnt(table: &[u64; 579], roles: u8, first: u8, second: u8) -> [u64; 579]
 pub fn check_stmt(
     policy: &[u8],
     p: &[u8],
-    table: &[u64; 579],
+    table: &[u64; rows::TABLE_WORDS],
     sizes: Sizes,
     around: Around,
     context: Context,
@@ -172,7 +179,7 @@ pub fn check_stmt(
 fn check_block(
     policy: &[u8],
     p: &[u8],
-    table: &[u64; 579],
+    table: &[u64; rows::TABLE_WORDS],
     sizes: Sizes,
     around: Around,
     context: Context,
@@ -200,7 +207,7 @@ fn check_block(
 fn check_pair(
     policy: &[u8],
     p: &[u8],
-    table: &[u64; 579],
+    table: &[u64; rows::TABLE_WORDS],
     sizes: Sizes,
     around: Around,
     context: Context,
@@ -221,7 +228,7 @@ fn check_pair(
 fn check_if(
     policy: &[u8],
     p: &[u8],
-    table: &[u64; 579],
+    table: &[u64; rows::TABLE_WORDS],
     sizes: Sizes,
     around: Around,
     context: Context,
@@ -246,7 +253,7 @@ fn check_if(
 fn check_while(
     policy: &[u8],
     p: &[u8],
-    table: &[u64; 579],
+    table: &[u64; rows::TABLE_WORDS],
     sizes: Sizes,
     around: Around,
     context: Context,
@@ -271,7 +278,7 @@ fn check_while(
 fn check_query(
     policy: &[u8],
     p: &[u8],
-    table: &[u64; 579],
+    table: &[u64; rows::TABLE_WORDS],
     sizes: Sizes,
     around: Around,
     context: Context,
@@ -309,7 +316,7 @@ fn check_query(
 fn check_branches(
     policy: &[u8],
     p: &[u8],
-    table: &[u64; 579],
+    table: &[u64; rows::TABLE_WORDS],
     sizes: Sizes,
     around: Around,
     context: Context,
@@ -333,7 +340,7 @@ fn check_branches(
 fn check_transaction(
     policy: &[u8],
     p: &[u8],
-    table: &[u64; 579],
+    table: &[u64; rows::TABLE_WORDS],
     sizes: Sizes,
     around: Around,
     context: Context,

@@ -9,6 +9,7 @@ use super::check;
 use super::check::Checked;
 use super::check::Sizes;
 use super::context;
+use order::rows;
 use policy::bytes;
 use policy::number;
 use program::answer::Read;
@@ -26,7 +27,7 @@ fn body_verdict(policy: &[u8], p: &[u8]) -> Verdict
     requires { ⌜ Accepted (now policy) ⌝ }
     ensures { λ r. ⌜ BodyVerdict (now (policy .entry)) (now (p .entry)) r ⌝ }
 {
-    let mut table = [0u64; 579];
+    let mut table = [0u64; rows::TABLE_WORDS];
     order::base::base_table(policy, &mut table);
     let vars = positions::byte_at(p, 5);
     let sizes = Sizes {

@@ -16,6 +16,7 @@ use Rattle.model.specs.Policy.{Side, reading, trust, principals, roles, rowAt, 
 use Rattle.model.specs.Syntax.{Fixed, of, everyone, Atom, role, fixed}
 use Rattle.model.specs.Order.{fixedSet, includes, base, atMost}
 use Rattle.model.proofs.Below.{last-or}
+use Rattle.model.proofs.Meaning.{watchers-below}
 use Rattle.model.proofs.Sets.{has-zero, has-with, has-with-same, with-has, has-power}
 use Rattle.model.proofs.Accepted.{accepted-facts}
 use Rattle.order.specs.declared.rows.Row.{Row}
@@ -129,9 +130,8 @@ with-fixed r j everyone = refl
 -- rows as the fixed part has them
 module _ (s : List ℕ) (ok : Accepted s) where
   fixed-below : (g : Fixed) → AtomBelow (roles s) (fixed g) → fixedSet s g < 2 ^ principals s
-  unfolding fixedSet watchers
-  fixed-below (of reading j) l = accepted-facts s ok .row j l .viewers-below
-  fixed-below (of trust j) l = accepted-facts s ok .row j l .trusters-below
+  unfolding fixedSet
+  fixed-below (of side j) l = watchers-below s ok j l side
   fixed-below everyone l = omega (arith, pow-pos (principals s))
 
   -- everyone is at most every atom

@@ -12,6 +12,10 @@ pub struct Row {
     pub trusters: u64,
 }
 
+// A row for each atom: 193 of three words.
+pub const TABLE_WORDS: usize = 579;
+
+// Where the rows of viewers, trusters and everyone begin; those of roles are the first.
 pub const VIEWERS: usize = 64;
 
 pub const TRUSTERS: usize = 128;
