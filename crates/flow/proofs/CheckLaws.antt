@@ -25,7 +25,7 @@ use Rattle.order.proofs.Joins.{join-both}
 use Rattle.walk.specs.declared.labels.Labels.{Labels}
 use Rattle.walk.specs.declared.writes.Writes.{Writes}
 use Rattle.walk.specs.Positions.{ahead, afterList}
-use Rattle.walk.specs.Labels.{LabelsRight, exprLabels, LabelsAt}
+use Rattle.walk.specs.Labels.{LabelsBelow, exprLabels, LabelsAt}
 use Rattle.walk.specs.Writes.{stmtWrites, WritesAt}
 use Rattle.walk.proofs.PositionLaws.{ahead-is, list-is}
 use Rattle.walk.proofs.Readings.{many-none, many-more, mutations-end, stmt-deep, stmt-there, other-parts, assign-parts, block-parts, if-parts, while-parts, branch-parts, update-parts, transaction-parts}
@@ -36,7 +36,7 @@ use Rattle.flow.specs.declared.check.Checked.{Checked}
 use Rattle.flow.specs.declared.check.Checked.the-variants.{Next, Refused}
 use Rattle.flow.specs.Lists.{ListedAt, NamedRoles, ListRolesAt, AllowedAt}
 use Rattle.flow.specs.Context.{ContextIs, withLabels, withNamed}
-use Rattle.flow.specs.Judge.{LabelsBelow, SetBelow, sidesNumber, Asked, labelsAbove, watchersAbove, WriteNumber, AssignNumber}
+use Rattle.flow.specs.Judge.{SetBelow, sidesNumber, Asked, labelsAbove, watchersAbove, WriteNumber, AssignNumber}
 use Rattle.flow.specs.Check.{checkedOf, checkedNumber, Inside, AroundIs, Stands, StmtAt, StmtFits, CheckedAt, CodedAt, AssignAt, UpdateAt, PairAt, BranchesAt, bodyStart, EnteredAt}
 use Rattle.flow.proofs.ContextLaws.{context-expr, context-query, context-list}
 
@@ -154,7 +154,7 @@ module _ {s p t : List ℕ} {z : Sizes} {a : Around} {c : Context} {around : Sur
   }
 
   labels-are : (q : ℕ) (l : Labels) (e : Expr) (end : ℕ) → LabelsAt p (z .vars) 16 q l → readExpr p (z .vars) 16 q ≡ got e end → l ≡ exprLabels p e end
-  unfolding LabelsAt LabelsRight LabelsBelow
+  unfolding LabelsAt LabelsBelow
   labels-are q l e end f h =
       f (λ side x i n. lt-of-lt-of-le (st .labels side x i n) (accepted-facts s (st .is-accepted) .roles-fit)) e end h
 

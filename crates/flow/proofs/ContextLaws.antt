@@ -13,10 +13,9 @@ use Rattle.model.proofs.Fits.{ExprFits}
 use Rattle.order.specs.Table.{AtomBelow, QueryBelow, Joins, JoinBelow, queryRoles, listRoles}
 use Rattle.order.proofs.Joins.{joins-none, joins-append, joins-role, joins-everyone, joins-query, joins-list, below-none, below-append, below-one, below-query, below-list}
 use Rattle.walk.specs.Words.{labelByte, labelRole, exprRoles}
-use Rattle.walk.specs.Labels.{exprLabels}
+use Rattle.walk.specs.Labels.{LabelsBelow, exprLabels}
 use Rattle.flow.specs.declared.context.Context.{Context}
 use Rattle.flow.specs.Context.{ContextIs, noContext, withLabels, withNamed}
-use Rattle.flow.specs.Judge.{LabelsBelow}
 
 -- a label's byte is that of its atom
 pub label-atom : (p : List ℕ) (side : Side) (x : ℕ) → label p side x ≡ labelAtom (labelByte p side x)

@@ -16,9 +16,10 @@ use Rattle.model.specs.Flow.{label, eachIn}
 use Rattle.model.proofs.Sets.{has-zero, has-below, has-without, without-has}
 use Rattle.model.proofs.Truth.{same-truth}
 use Rattle.order.specs.Table.{sideOf, Decides}
+use Rattle.walk.specs.Labels.{LabelsBelow}
 use Rattle.walk.specs.Words.{labelByte}
 use Rattle.flow.specs.declared.context.Context.{Context}
-use Rattle.flow.specs.Judge.{LabelsBelow, Lowest, watchersByte, sidesNumber, Asked, BelowSide, labelsAbove, watchersAbove, VariablesBelow, RolesBelow, MayWrite, WriteNumber, AssignNumber}
+use Rattle.flow.specs.Judge.{Lowest, watchersByte, sidesNumber, Asked, BelowSide, labelsAbove, watchersAbove, VariablesBelow, RolesBelow, MayWrite, WriteNumber, AssignNumber}
 use Rattle.flow.proofs.ContextLaws.{label-atom, atom-byte, label-below}
 
 and-false : (a b : Bool) → b ≡ false → a && b ≡ false

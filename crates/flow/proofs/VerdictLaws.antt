@@ -23,7 +23,7 @@ use Rattle.flow.specs.declared.check.Checked.the-variants as checked
 use Rattle.flow.specs.declared.verdict.Verdict.{Verdict}
 use Rattle.flow.specs.declared.verdict.Verdict.the-variants.{Fine, Refused}
 use Rattle.flow.specs.Context.{noContext}
-use Rattle.flow.specs.Judge.{LabelsBelow}
+use Rattle.walk.specs.Labels.{LabelsBelow}
 use Rattle.flow.specs.Check.{noTransaction, checkedOf, Ready, CheckedAt}
 use Rattle.flow.specs.Verdict.{verdictAs, BodyVerdict}
 use Rattle.flow.proofs.ContextLaws.{context-none}

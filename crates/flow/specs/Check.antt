@@ -12,6 +12,7 @@ use Rattle.model.specs.Syntax.{Atom, Query, atomByte, Stmt}
 use Rattle.model.specs.Program.{got, readMany, readQuery, readStmt}
 use Rattle.model.specs.Flow.{Around as Surroundings, outside, inside, assigned, mutated, flow}
 use Rattle.model.proofs.Fits.{Each, QueryFits, Fits}
+use Rattle.walk.specs.Labels.{LabelsBelow}
 use Rattle.order.specs.Table.{tableWords, QueryBelow, Knows, listRoles}
 use Rattle.flow.specs.declared.context.Context.{Context}
 use Rattle.flow.specs.declared.check.Sizes.{Sizes}
@@ -19,7 +20,7 @@ use Rattle.flow.specs.declared.check.Around.{Around}
 use Rattle.flow.specs.declared.check.Checked.{Checked}
 use Rattle.flow.specs.declared.check.Checked.the-variants.{Next, Refused}
 use Rattle.flow.specs.Context.{ContextIs}
-use Rattle.flow.specs.Judge.{LabelsBelow, SetBelow}
+use Rattle.flow.specs.Judge.{SetBelow}
 
 -- the answer of a verdict on a statement that ends at a position
 unfoldable pub checkedOf : Verdict → ℕ → Checked

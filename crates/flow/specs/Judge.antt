@@ -11,13 +11,9 @@ use Rattle.model.specs.Syntax.{of, Atom, fixed, Query, atomByte}
 use Rattle.model.specs.Order.{joinAtMost}
 use Rattle.model.specs.Flow.{label, eachIn}
 use Rattle.order.specs.Table.{AtomBelow, Knows}
-use Rattle.walk.specs.Words.{labelByte}
+use Rattle.walk.specs.Labels.{LabelsBelow}
 use Rattle.flow.specs.declared.context.Context.{Context}
 use Rattle.flow.specs.Context.{ContextIs}
-
--- the labels of the variables are roles below R, or everyone; so they are in a program that was read
-unfoldable pub LabelsBelow : ℕ → List ℕ → ℕ → Type 0
-LabelsBelow R p vars = (side : Side) (x : ℕ) → x < vars → (labelByte p side x ≡ 0xff → ⊥) → labelByte p side x < R
 
 -- a set of numbers below n
 abbrev pub SetBelow : ℕ → ℕ → Type 0

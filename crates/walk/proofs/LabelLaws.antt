@@ -12,7 +12,7 @@ use Rattle.model.specs.Policy.{reading, trust}
 use Rattle.walk.specs.declared.labels.Labels.{Labels}
 use Rattle.walk.specs.Words.{labelByte, labelRole, single, exprRoles}
 use Rattle.walk.specs.Positions.{ahead}
-use Rattle.walk.specs.Labels.{LabelsRight, variableLabels, exprLabels, LabelsAt}
+use Rattle.walk.specs.Labels.{LabelsBelow, variableLabels, exprLabels, LabelsAt}
 use Rattle.walk.proofs.Readings.{expr-deep, expr-there, constant-parts, variable-parts, binary-parts}
 use Rattle.walk.proofs.WordLaws.{single-high, single-is}
 use Rattle.walk.proofs.PositionLaws.{ahead-is}
@@ -43,7 +43,7 @@ module _ (p : List ℕ) (vars d at : ℕ) where
         rw (u .is, u .ends, q, ahead-is p at 5 (u .inside))
 
     pub labels-variable : (m n x : ℕ) (r : Labels) → c ≡ 1 → m ≡ ahead p at 1 → x ≡ byte p m → n ≡ ahead p at 2 → r ≡ variableLabels p x n → LabelsAt p vars d at r
-    unfolding LabelsAt LabelsRight exprRoles
+    unfolding LabelsAt LabelsBelow exprRoles
     labels-variable m n x r k q y l s right e end h =
         let u = variable-parts p vars d at h (sym i ∙ k) in
         let z : x ≡ byte p (at + 1) = y ∙ ap (byte p) (q ∙ ahead-is p at 1 (omega arith)) in

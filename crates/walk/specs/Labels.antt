@@ -8,9 +8,9 @@ use Rattle.model.specs.Program.{got, readExpr}
 use Rattle.walk.specs.declared.labels.Labels.{Labels}
 use Rattle.walk.specs.Words.{labelByte, single, exprRoles}
 
--- the labels of the variables are roles below 64, or everyone; so they are in a program that was read
-unfoldable pub LabelsRight : List ℕ → ℕ → Type 0
-LabelsRight p vars = (side : Side) (x : ℕ) → x < vars → (labelByte p side x ≡ 0xff → ⊥) → labelByte p side x < 64
+-- the labels of the variables are roles below R, or everyone; so they are in a program that was read
+unfoldable pub LabelsBelow : ℕ → List ℕ → ℕ → Type 0
+LabelsBelow R p vars = (side : Side) (x : ℕ) → x < vars → (labelByte p side x ≡ 0xff → ⊥) → labelByte p side x < R
 
 -- one variable's labels, as words
 abbrev pub variableLabels : List ℕ → ℕ → ℕ → Labels
@@ -23,4 +23,4 @@ exprLabels p e end = record { next = end; reading = exprRoles p reading e; trust
 -- r is the labels of the expression that stands at a position
 unfoldable pub LabelsAt : List ℕ → ℕ → ℕ → ℕ → Labels → Type 0
 LabelsAt p vars depth at r =
-    LabelsRight p vars → (e : Expr) (end : ℕ) → readExpr p vars depth at ≡ got e end → r ≡ exprLabels p e end
+    LabelsBelow 64 p vars → (e : Expr) (end : ℕ) → readExpr p vars depth at ≡ got e end → r ≡ exprLabels p e end
