@@ -107,7 +107,7 @@ fn may_be_taken(rows: &[Row], role: usize) -> u64 {
 fn largest(takes: fn(u8) -> u64) -> Policy {
     let row = |role: u8| Row {
         owner: role % MOST_PRINCIPALS,
-        name: role,
+        name: role + 1,
         viewers: u32::MAX,
         trusters: u32::MAX,
         members: match role {

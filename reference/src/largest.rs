@@ -16,7 +16,7 @@ const OPEN_ROLES: u8 = MOST_LISTED + 1;
 fn policy() -> Policy {
     let row = |role: u8| Row {
         owner: 0,
-        name: role,
+        name: role + 1,
         viewers: if role < OPEN_ROLES { u32::MAX } else { 1 },
         trusters: u32::MAX,
         members: 1,

@@ -196,7 +196,7 @@ fn assert_rule_stops(broken: Rules, exhibit: &Exhibit) {
 fn policy(roles: &[(u32, u32)]) -> Policy {
     let rows = roles.iter().enumerate().map(|(role, &(viewers, members))| Row {
         owner: viewers.trailing_zeros() as u8,
-        name: role as u8,
+        name: role as u8 + 1,
         viewers,
         trusters: BOTH,
         members,

@@ -45,7 +45,7 @@ fn policy_g() -> Vec<u8> {
         takes: 0,
     };
     let rows =
-        vec![row(0, 0, 3, 3), row(0, 1, 1, 3), row(0, 2, 3, 1), row(0, 3, 1, 1), row(1, 0, 2, 3)];
+        vec![row(0, 1, 3, 3), row(0, 2, 1, 3), row(0, 3, 3, 1), row(0, 4, 1, 1), row(1, 1, 2, 3)];
     reference::generate::encode(&Policy { principals: 2, rows })
 }
 

@@ -59,7 +59,7 @@ fn print_head(files: &str) {
 
 /// One principal, one role, its owner the only member.
 fn minimal() -> Policy {
-    let row = Row { owner: 0, name: 0, viewers: 1, trusters: 1, members: 1, takes: 0 };
+    let row = Row { owner: 0, name: 1, viewers: 1, trusters: 1, members: 1, takes: 0 };
     Policy { principals: 1, rows: vec![row] }
 }
 
