@@ -1,11 +1,8 @@
 //! Policies with one or two faults, each with the number that document 01's order gives it by the
-//! way it is made: a valid policy is broken at a known place, and nothing is read back.
+//! way it is made: a valid policy is broken at a known place, and nothing is read back. The numbers
+//! are written out, so that none is taken from what they are there to test.
 
 use crate::generate::{encode, free_name, valid_of_size};
-use crate::number::{
-    POLICY_HOLDING as HOLDING, POLICY_LENGTH as LENGTH, POLICY_MARK as MARK, POLICY_OWNER as OWNER,
-    POLICY_PRINCIPAL as PRINCIPAL, POLICY_RANGE as RANGE,
-};
 use crate::policy::{Policy, Row, MOST_PRINCIPALS, MOST_ROLES, ROW_BYTES};
 use crate::rng::Rng;
 
@@ -13,30 +10,30 @@ use crate::rng::Rng;
 pub type FileFault = (u32, &'static str, fn(&mut Rng) -> Vec<u8>);
 
 pub const FILE_FAULTS: [FileFault; 24] = [
-    (LENGTH, "under 7 bytes", |rng| cut(any(rng), rng.below(7))),
-    (LENGTH, "under 7 bytes, of noise", |rng| cut(rng.bytes(7), rng.below(7))),
-    (LENGTH, "a byte short", |rng| shorter(any(rng), 1)),
-    (LENGTH, "a row short", |rng| shorter(any(rng), ROW_BYTES)),
-    (LENGTH, "a byte long", |rng| longer(any(rng), 1)),
-    (LENGTH, "a row long", |rng| longer(any(rng), ROW_BYTES)),
-    (LENGTH, "256 bytes long", |rng| longer(any(rng), 256)),
-    (LENGTH, "another R in range", another_row_count),
-    (LENGTH, "a byte short, two row faults", |rng| shorter(two_row_faults(rng).1, 1)),
-    (MARK, "mark, byte 0", |rng| other_byte(rng, 0)),
-    (MARK, "mark, byte 1", |rng| other_byte(rng, 1)),
-    (MARK, "mark, byte 2", |rng| other_byte(rng, 2)),
-    (MARK, "version, low byte", |rng| other_byte(rng, 3)),
-    (MARK, "version, high byte", |rng| other_byte(rng, 4)),
-    (MARK, "version, bytes exchanged", |rng| set(any(rng), 3, &[0, 1])),
-    (MARK, "the program's mark", |rng| set(any(rng), 2, b"P")),
-    (MARK, "mark, ranges, length", |rng| set(longer(other_byte(rng, 0), 1), 5, &[0, 65])),
-    (MARK, "version, two row faults", |rng| set(two_row_faults(rng).1, 3, &[2])),
-    (RANGE, "P 0", |rng| set(any(rng), 5, &[0])),
-    (RANGE, "P over 32", |rng| set(any(rng), 5, &[rng.between(33, 255)])),
-    (RANGE, "R over 64, all rows there", too_many_rows),
-    (RANGE, "R over 64, length", |rng| set(any(rng), 6, &[rng.between(65, 255)])),
-    (RANGE, "P 0, length", |rng| set(shorter(any(rng), 1), 5, &[0])),
-    (RANGE, "P over 32, two row faults", |rng| set(two_row_faults(rng).1, 5, &[33])),
+    (1, "under 7 bytes", |rng| cut(any(rng), rng.below(7))),
+    (1, "under 7 bytes, of noise", |rng| cut(rng.bytes(7), rng.below(7))),
+    (1, "a byte short", |rng| shorter(any(rng), 1)),
+    (1, "a row short", |rng| shorter(any(rng), ROW_BYTES)),
+    (1, "a byte long", |rng| longer(any(rng), 1)),
+    (1, "a row long", |rng| longer(any(rng), ROW_BYTES)),
+    (1, "256 bytes long", |rng| longer(any(rng), 256)),
+    (1, "another R in range", another_row_count),
+    (1, "a byte short, two row faults", |rng| shorter(two_row_faults(rng).1, 1)),
+    (2, "mark, byte 0", |rng| other_byte(rng, 0)),
+    (2, "mark, byte 1", |rng| other_byte(rng, 1)),
+    (2, "mark, byte 2", |rng| other_byte(rng, 2)),
+    (2, "version, low byte", |rng| other_byte(rng, 3)),
+    (2, "version, high byte", |rng| other_byte(rng, 4)),
+    (2, "version, bytes exchanged", |rng| set(any(rng), 3, &[0, 1])),
+    (2, "the program's mark", |rng| set(any(rng), 2, b"P")),
+    (2, "mark, ranges, length", |rng| set(longer(other_byte(rng, 0), 1), 5, &[0, 65])),
+    (2, "version, two row faults", |rng| set(two_row_faults(rng).1, 3, &[2])),
+    (3, "P 0", |rng| set(any(rng), 5, &[0])),
+    (3, "P over 32", |rng| set(any(rng), 5, &[rng.between(33, 255)])),
+    (3, "R over 64, all rows there", too_many_rows),
+    (3, "R over 64, length", |rng| set(any(rng), 6, &[rng.between(65, 255)])),
+    (3, "P 0, length", |rng| set(shorter(any(rng), 1), 5, &[0])),
+    (3, "P over 32, two row faults", |rng| set(two_row_faults(rng).1, 5, &[33])),
 ];
 
 /// A valid file of at least one row.
@@ -112,52 +109,52 @@ const fn row_fault(
 }
 
 pub const ROW_FAULTS: [RowFault; 12] = [
-    row_fault(PRINCIPAL, "owner P or over", ANY, |rng, policy, row| {
+    row_fault(4, "owner P or over", ANY, |rng, policy, row| {
         policy.rows[row].owner = rng.between(policy.principals, 255);
     }),
-    row_fault(PRINCIPAL, "viewer P or over", FREE_PRINCIPAL, |rng, policy, row| {
+    row_fault(4, "viewer P or over", FREE_PRINCIPAL, |rng, policy, row| {
         policy.rows[row].viewers |= unknown_principal(rng, policy);
     }),
-    row_fault(PRINCIPAL, "truster P or over", FREE_PRINCIPAL, |rng, policy, row| {
+    row_fault(4, "truster P or over", FREE_PRINCIPAL, |rng, policy, row| {
         policy.rows[row].trusters |= unknown_principal(rng, policy);
     }),
-    row_fault(PRINCIPAL, "member P or over", FREE_PRINCIPAL, |rng, policy, row| {
+    row_fault(4, "member P or over", FREE_PRINCIPAL, |rng, policy, row| {
         policy.rows[row].members |= unknown_principal(rng, policy);
     }),
-    row_fault(OWNER, "owner no viewer", ANY, |_, policy, row| {
+    row_fault(5, "owner no viewer", ANY, |_, policy, row| {
         let row = isolated(policy, row);
         row.viewers &= !(1 << row.owner);
         row.members &= row.viewers;
     }),
-    row_fault(OWNER, "owner no truster", ANY, |_, policy, row| {
+    row_fault(5, "owner no truster", ANY, |_, policy, row| {
         let row = isolated(policy, row);
         row.trusters &= !(1 << row.owner);
         row.members &= row.trusters;
     }),
-    RowFault { number: OWNER, name: "pair again", most: ANY, first_row: 1, put: repeat_pair },
-    row_fault(HOLDING, "member no viewer", ANY, |rng, policy, row| {
+    RowFault { number: 5, name: "pair again", most: ANY, first_row: 1, put: repeat_pair },
+    row_fault(6, "member no viewer", ANY, |rng, policy, row| {
         let other = other_principal(rng, policy, row);
         let row = isolated(policy, row);
         row.viewers &= !other;
         row.trusters |= other;
         row.members = row.members & row.viewers | other;
     }),
-    row_fault(HOLDING, "member no truster", ANY, |rng, policy, row| {
+    row_fault(6, "member no truster", ANY, |rng, policy, row| {
         let other = other_principal(rng, policy, row);
         let row = isolated(policy, row);
         row.viewers |= other;
         row.trusters &= !other;
         row.members = row.members & row.trusters | other;
     }),
-    row_fault(HOLDING, "takes no role", FREE_ROLE, |rng, policy, row| {
+    row_fault(6, "takes no role", FREE_ROLE, |rng, policy, row| {
         let roles = policy.rows.len() as u8;
         policy.rows[row].takes |= 1 << rng.between(roles, 63);
     }),
-    row_fault(HOLDING, "takes other viewers", ANY, |rng, policy, row| {
+    row_fault(6, "takes other viewers", ANY, |rng, policy, row| {
         let other = other_principal(rng, policy, row);
         taken_twin(rng, policy, row, |twin| twin.viewers ^= other);
     }),
-    row_fault(HOLDING, "takes other trusters", ANY, |rng, policy, row| {
+    row_fault(6, "takes other trusters", ANY, |rng, policy, row| {
         let other = other_principal(rng, policy, row);
         taken_twin(rng, policy, row, |twin| twin.trusters ^= other);
     }),
@@ -215,7 +212,7 @@ pub fn two_row_faults(rng: &mut Rng) -> (u32, Vec<u8>) {
     let [one, other] = faults.map(|fault| fault.most);
     let mut policy = with_room(rng, (one.0.min(other.0), one.1.min(other.1)));
     let places = faults.map(|fault| (put_fault(rng, &mut policy, fault), fault.number));
-    let judged = |&(row, number): &(usize, u32)| (number == HOLDING, row, number);
+    let judged = |&(row, number): &(usize, u32)| (number == 6, row, number);
     let (_, number) = places.into_iter().min_by_key(judged).expect("there are two");
     (number, encode(&policy))
 }

@@ -1,10 +1,10 @@
 //! Programs refused in reading, each with the number and the place that document 01 gives it by
 //! the way it is made: an accepted program is broken at a known byte, and nothing is read back.
-//! What comes after that byte does not count, so it is often broken too.
+//! What comes after that byte does not count, so it is often broken too. The numbers are written
+//! out, so that none is taken from what they are there to test.
 
 use crate::encode::{encode, File, Part};
 use crate::generate_program::{any, rich, with_fault, Case};
-use crate::number;
 use crate::policy::{Policy, MOST_ROLES};
 use crate::program::{
     Atom, Expression, Operator, Query, Refusal, Statement, MOST_BYTES, MOST_EXPRESSION_DEPTH,
@@ -41,12 +41,12 @@ pub const PARTS: [Part; 13] = [
 /// A wrong value for a byte, and its number.
 pub fn wrong_byte(rng: &mut Rng, case: &Case, part: Part, byte: u8) -> (u8, u32) {
     let roles = case.policy.rows.len() as u8;
-    let range = number::PROGRAM_RANGE;
+    let range = 13;
     match part {
-        Part::MarkOrVersion => (byte ^ rng.between(1, 255), number::PROGRAM_MARK),
+        Part::MarkOrVersion => (byte ^ rng.between(1, 255), 11),
         Part::VariableCount => (rng.between(MOST_VARIABLES + 1, 255), range),
         Part::Label => (rng.between(roles, 254), range),
-        Part::Code | Part::ExpressionCode => (rng.between(8, 255), number::PROGRAM_CODE),
+        Part::Code | Part::ExpressionCode => (rng.between(8, 255), 12),
         Part::Variable => (rng.between(case.program.labels.len() as u8, 255), range),
         Part::MutationCount if rng.below(2) == 0 => (0, range),
         Part::MutationCount => (rng.between(MOST_MUTATIONS + 1, 255), range),
@@ -54,8 +54,8 @@ pub fn wrong_byte(rng: &mut Rng, case: &Case, part: Part, byte: u8) -> (u8, u32)
         Part::Atom if roles < MOST_ROLES && rng.below(2) == 0 => {
             (rng.between(roles, MOST_ROLES - 1) + *rng.pick(&[0x00, 0x40, 0x80]), range)
         }
-        Part::Atom => (rng.between(0xC0, 0xFE), number::PROGRAM_CODE),
-        Part::Kind => (rng.between(4, 255), number::PROGRAM_CODE),
+        Part::Atom => (rng.between(0xC0, 0xFE), 12),
+        Part::Kind => (rng.between(4, 255), 12),
         Part::Role | Part::TakenRole => (rng.between(roles, 255), range),
         Part::Principal => (rng.between(case.policy.principals, 255), range),
         Part::BlockCount | Part::Constant => unreachable!("every value is right"),
@@ -115,7 +115,7 @@ pub fn ends_early(rng: &mut Rng) -> Refused {
     let (case, mut file) = readable(rng);
     let length = rng.below(file.bytes.len());
     file.bytes.truncate(length);
-    refused(case, file.bytes, number::PROGRAM_LENGTH, length)
+    refused(case, file.bytes, 10, length)
 }
 
 /// Bytes left over, up to the most there can be.
@@ -128,7 +128,7 @@ pub fn left_over(rng: &mut Rng) -> Refused {
     };
     let more = rng.bytes(more);
     file.bytes.extend(more);
-    refused(case, file.bytes, number::PROGRAM_LENGTH, length)
+    refused(case, file.bytes, 10, length)
 }
 
 /// Too long, whatever the bytes are.
@@ -141,7 +141,7 @@ pub fn over_length(rng: &mut Rng) -> Refused {
     }
     let fill = rng.byte() & *rng.pick(&[0, 0xFF]);
     file.bytes.resize(length, fill);
-    refused(case, file.bytes, number::PROGRAM_LENGTH, MOST_BYTES)
+    refused(case, file.bytes, 10, MOST_BYTES)
 }
 
 /// A statement one deeper than may be, whatever stands there, or nothing.
@@ -181,7 +181,7 @@ fn too_deep(rng: &mut Rng, make: impl Fn(&mut Rng, Query, Statement) -> Statemen
         }
         spoil(rng, &mut file.bytes, place);
     }
-    refused(case, file.bytes, number::PROGRAM_DEPTH, place)
+    refused(case, file.bytes, 14, place)
 }
 
 /// The statement in so many others.

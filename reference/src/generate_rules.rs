@@ -1,10 +1,10 @@
 //! Programs made for one flow rule each, with the number that the rule gives them: 0, or that of
-//! the first marked statement.
+//! the first marked statement. The numbers are written out, so that none is taken from what they are
+//! there to test.
 
 use crate::flow::{Side, SIDES};
 use crate::generate::{free_name, valid_of_size};
 use crate::generate_program::{label, Case};
-use crate::number;
 use crate::policy::{Policy, Row};
 use crate::program::{Atom, Labels, Program, Query, Statement, MOST_LISTED};
 use crate::rng::Rng;
@@ -67,6 +67,14 @@ fn side(rng: &mut Rng) -> Side {
     *rng.pick(&SIDES)
 }
 
+/// The number where this side is not derivable.
+fn refused_on(side: Side) -> u32 {
+    match side {
+        Side::Reading => 17,
+        Side::Trust => 18,
+    }
+}
+
 /// A label that is a role on one side alone.
 fn label_on(side: Side, role: u8) -> Labels {
     match side {
@@ -121,13 +129,11 @@ pub fn written_elsewhere(rng: &mut Rng) -> (Case, u32) {
         _ => somewhere(rng, marked(touch(closed))),
     };
     let made_right = known && !writes_role;
-    let number = if made_right { number::ACCEPTED } else { side.number() };
+    let number = if made_right { 0 } else { refused_on(side) };
     let (statement, number) = match rng.below(6) {
-        0 => (transaction(list, updated), number::ACCEPTED),
-        1 if !writes_role => (block([low, transaction(list, updated)]), number::ACCEPTED),
-        2 if writes_role => {
-            (block([transaction(list, updated), transaction([], low)]), number::ACCEPTED)
-        }
+        0 => (transaction(list, updated), 0),
+        1 if !writes_role => (block([low, transaction(list, updated)]), 0),
+        2 if writes_role => (block([transaction(list, updated), transaction([], low)]), 0),
         3 if !known => (transaction(list, block([updated, transaction([], low)])), number),
         4 => (transaction(list, block([low, updated])), number),
         _ => (transaction(list, block([updated, low])), number),
@@ -169,9 +175,9 @@ pub fn chain_of_queries(rng: &mut Rng) -> (Case, u32) {
     });
     let broken = (rng.below(2) == 0).then(|| rng.below(list.len()));
     let number = match broken {
-        None => number::ACCEPTED,
-        Some(_) if both_sides => number::READING,
-        Some(_) => side.number(),
+        None => 0,
+        Some(_) if both_sides => 17,
+        Some(_) => refused_on(side),
     };
     let mut statement = somewhere(rng, end);
     for index in rng.order(list.len()) {

@@ -6,7 +6,6 @@
 use std::rc::Rc;
 
 use crate::flow::{may_make, Side, Sides, Written, SIDES};
-use crate::number;
 use crate::order::{atoms, Join, Order};
 use crate::policy::Policy;
 use crate::program::{
@@ -48,14 +47,16 @@ pub const FAULTS: [Fault; 9] = [
 ];
 
 impl Fault {
+    /// Written out, not taken from what it is there to test.
     pub fn number(self) -> u32 {
         match self {
             Fault::QueryOutside
             | Fault::UpdateOutside
             | Fault::UnlistedQuery
-            | Fault::NestedTransaction => number::TRANSACTION,
-            Fault::WrongAdd => number::ADDED,
-            Fault::Assign(side) | Fault::Update(side) => side.number(),
+            | Fault::NestedTransaction => 15,
+            Fault::WrongAdd => 16,
+            Fault::Assign(Side::Reading) | Fault::Update(Side::Reading) => 17,
+            Fault::Assign(Side::Trust) | Fault::Update(Side::Trust) => 18,
         }
     }
 }

@@ -20,7 +20,6 @@ use reference::generate_program::{any, rich, small, with_fault, Case};
 use reference::generate_rules::{chain_of_queries, written_elsewhere};
 use reference::largest::{assignments, known_queries, nested_queries, skips};
 use reference::loosen::{loosened, noise};
-use reference::number;
 use reference::policy::Policy;
 use reference::program::{Form, Program};
 use reference::proved_program as proved;
@@ -112,15 +111,15 @@ impl Run {
     fn accepted(&mut self) {
         let largest = [skips(), assignments(), nested_queries(), known_queries()];
         for case in largest {
-            self.expect_case("largest", number::ACCEPTED, case);
+            self.expect_case("largest", 0, case);
         }
         for _ in 0..ANY {
             let case = any(&mut self.rng);
-            self.expect_case("any", number::ACCEPTED, case);
+            self.expect_case("any", 0, case);
         }
         for _ in 0..RICH {
             let case = rich(&mut self.rng);
-            self.expect_case("rich", number::ACCEPTED, case);
+            self.expect_case("rich", 0, case);
         }
     }
 
@@ -215,7 +214,7 @@ impl Run {
     fn expect_case(&mut self, kind: &str, number: u32, mut case: Case) {
         let file = encode(&mut case.program);
         let place = match number {
-            number::ACCEPTED => 0,
+            0 => 0,
             _ => file.marked.expect("a statement is marked"),
         };
         self.expect(kind, &case.policy, &file.bytes, (number, place));
@@ -237,7 +236,7 @@ impl Run {
     fn compare(&mut self, kind: &str, policy: &[u8], program: &[u8]) -> (u32, usize) {
         let expected = accepted(policy, program);
         let (number, place) = match &expected {
-            Ok(_) => (number::ACCEPTED, 0),
+            Ok(_) => (0, 0),
             Err(refusal) => (refusal.number, refusal.place),
         };
         let transactions = match &expected {
@@ -265,12 +264,12 @@ impl Run {
     fn count(&mut self, number: u32, policy: &[u8], program: &[u8]) {
         self.counts.programs += 1;
         self.counts.answers[number as usize] += 1;
-        if number == number::ACCEPTED || number >= number::TRANSACTION {
+        if number == 0 || number >= 15 {
             let policy = Policy::read(policy).expect("the policy is accepted");
             let program = Program::read(&policy, program).expect("the program can be read");
             let rich = is_rich(&program);
             self.counts.rich += usize::from(rich);
-            self.counts.rich_accepted += usize::from(rich && number == number::ACCEPTED);
+            self.counts.rich_accepted += usize::from(rich && number == 0);
         }
     }
 }

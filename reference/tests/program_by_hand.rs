@@ -64,13 +64,12 @@ fn assert_verdict(policy: &[u8], program: &[u8], expected: (u32, usize)) {
     assert_eq!(proved::program(policy, program), expected.0, "proved: {}", shown());
     assert_eq!(proved::verdict(policy, program), expected, "proved: {}", shown());
     if expected.0 != 0 {
-        assert_bodies(policy, program, &[]);
+        assert_bodies(policy, program, expected.0, &[]);
     }
 }
 
 /// Asks for each transaction's body, and for one more.
-fn assert_bodies(policy: &[u8], program: &[u8], bodies: &[(usize, usize)]) {
-    let number = flow::verdict(policy, program).0;
+fn assert_bodies(policy: &[u8], program: &[u8], number: u32, bodies: &[(usize, usize)]) {
     for k in (0..=bodies.len() as u32).chain([u32::MAX]) {
         let body = bodies.get(k as usize).copied().unwrap_or((0, 0));
         assert_eq!(flow::transaction(policy, program, k), body, "reference: {program:02x?} {k}");
@@ -103,7 +102,7 @@ fn assert_tree(labels: &[Labels], statement: Statement, number: u32) {
 #[test]
 fn worked_programs() {
     assert_verdict(&E, &WORKED, (0, 0));
-    assert_bodies(&E, &WORKED, &[]);
+    assert_bodies(&E, &WORKED, 0, &[]);
     let back = program(&[0xFF, 0xFF, 0x00, 0x00], &[0x01, 0x00, 0x01, 0x01]);
     assert_verdict(&E, &back, (READING, 10));
     let only_trust = program(&[0xFF, 0xFF, 0xFF, 0x00], &[0x01, 0x00, 0x01, 0x01]);
@@ -116,7 +115,7 @@ fn worked_programs() {
         ];
         let file = program(&[0xFF, 0xFF], &[head.as_slice(), &body].concat());
         assert_verdict(&F, &file, (0, 0));
-        assert_bodies(&F, &file, &[(12, body.len())]);
+        assert_bodies(&F, &file, 0, &[(12, 18)]);
     }
     // A query on a role viewed only by principal 0, then an assignment to FF FF in either branch.
     // Only knowing the role at most everyone would make that right, as it does with the pair
@@ -590,12 +589,12 @@ fn bodies_of_transactions() {
     ];
     let file = program(&[], &statement);
     assert_verdict(&policy_g(), &file, (0, 0));
-    assert_bodies(&policy_g(), &file, &[(10, 1), (21, 5), (28, 2), (43, 5)]);
+    assert_bodies(&policy_g(), &file, 0, &[(10, 1), (21, 5), (28, 2), (43, 5)]);
     // None where either file is refused.
-    assert_bodies(&E[..28], &file, &[]);
+    assert_bodies(&E[..28], &file, 1, &[]);
     assert_verdict(&policy_g(), &[file.as_slice(), &[0x00]].concat(), (LENGTH, file.len()));
     let only = program(&[], &[0x07, 0x00, 0x00]);
-    assert_bodies(&policy_g(), &only, &[(8, 1)]);
+    assert_bodies(&policy_g(), &only, 0, &[(8, 1)]);
     for k in [1, 255, 256, 0x1_0000, 0x8000_0000] {
         assert_eq!(proved::transaction(&policy_g(), &only, k), (0, (0, 0)));
     }
