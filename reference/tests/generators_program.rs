@@ -1,6 +1,11 @@
 //! What the differential test of programs leans on: each generated program has the number and the
 //! place it is made for, and the accepted ones have what is worth comparing.
 
+mod common {
+    pub mod seeds;
+}
+
+use common::seeds::with_both_seeds;
 use reference::damage_program::*;
 use reference::encode::encode;
 use reference::flow::check;
@@ -10,90 +15,100 @@ use reference::largest;
 use reference::order::{atoms, Join, Order};
 use reference::policy::Policy;
 use reference::program::{Atom, Form, Program, Query, Refusal, MOST_BYTES};
-use reference::rng::Rng;
 use reference::writer::FAULTS;
 
 const TRIES: usize = 1_000;
 
 #[test]
 fn accepted_programs_are_read_as_they_are_and_accepted() {
-    let mut rng = Rng::new(1);
-    for make in [any, rich] {
-        for _ in 0..TRIES {
-            let Case { policy, mut program } = make(&mut rng);
-            let file = encode(&mut program);
-            assert_eq!(Program::read(&policy, &file.bytes).as_ref(), Ok(&program));
-            assert_eq!(check(&policy, &program), Ok(()), "{policy:?} {program:?}");
+    with_both_seeds(|mut rng| {
+        for make in [any, rich] {
+            for _ in 0..TRIES {
+                let Case { policy, mut program } = make(&mut rng);
+                let file = encode(&mut program);
+                assert_eq!(Program::read(&policy, &file.bytes).as_ref(), Ok(&program));
+                assert_eq!(check(&policy, &program), Ok(()), "{policy:?} {program:?}");
+            }
         }
-    }
+    });
 }
 
 #[test]
 fn rich_programs_have_a_transaction_a_query_and_an_update() {
-    let mut rng = Rng::new(2);
-    for _ in 0..TRIES {
-        let program = rich(&mut rng).program;
-        let (mut transactions, mut queries, mut updates) = (0, 0, 0);
-        program.statement.visit(&mut |statement| match statement.form {
-            Form::Transaction(_) => transactions += 1,
-            Form::Query { .. } => queries += 1,
-            Form::Update(_) => updates += 1,
-            _ => {}
-        });
-        assert!(transactions > 0 && queries > 0 && updates > 0, "{program:?}");
-    }
+    with_both_seeds(|mut rng| {
+        for _ in 0..TRIES {
+            let program = rich(&mut rng).program;
+            let (mut transactions, mut queries, mut updates) = (0, 0, 0);
+            program.statement.visit(&mut |statement| match statement.form {
+                Form::Transaction(_) => transactions += 1,
+                Form::Query { .. } => queries += 1,
+                Form::Update(_) => updates += 1,
+                _ => {}
+            });
+            assert!(transactions > 0 && queries > 0 && updates > 0, "{program:?}");
+        }
+    });
 }
 
 #[test]
 fn faults_have_their_numbers_at_their_places() {
-    let mut rng = Rng::new(3);
-    for fault in FAULTS {
-        for _ in 0..TRIES {
-            let Case { policy, mut program } = with_fault(&mut rng, fault);
-            let file = encode(&mut program);
-            let place = file.marked.expect("the fault is marked");
-            let expected = Refusal { number: fault.number(), place };
-            assert_eq!(check(&policy, &program), Err(expected), "{fault:?} {policy:?} {program:?}");
+    with_both_seeds(|mut rng| {
+        for fault in FAULTS {
+            for _ in 0..TRIES {
+                let Case { policy, mut program } = with_fault(&mut rng, fault);
+                let file = encode(&mut program);
+                let place = file.marked.expect("the fault is marked");
+                let expected = Refusal { number: fault.number(), place };
+                assert_eq!(
+                    check(&policy, &program),
+                    Err(expected),
+                    "{fault:?} {policy:?} {program:?}"
+                );
+            }
         }
-    }
+    });
 }
 
 #[test]
 fn programs_made_for_a_rule_have_the_number_it_gives() {
-    let mut rng = Rng::new(4);
-    for make in [written_elsewhere, chain_of_queries] {
-        let mut accepted = 0;
-        for _ in 0..TRIES {
-            let (Case { policy, mut program }, number) = make(&mut rng);
-            let file = encode(&mut program);
-            let expected = match number {
-                0 => Ok(()),
-                _ => Err(Refusal { number, place: file.marked.expect("a statement is marked") }),
-            };
-            assert_eq!(check(&policy, &program), expected, "{policy:?} {program:?}");
-            accepted += usize::from(number == 0);
+    with_both_seeds(|mut rng| {
+        for make in [written_elsewhere, chain_of_queries] {
+            let mut accepted = 0;
+            for _ in 0..TRIES {
+                let (Case { policy, mut program }, number) = make(&mut rng);
+                let file = encode(&mut program);
+                let expected = match number {
+                    0 => Ok(()),
+                    _ => {
+                        Err(Refusal { number, place: file.marked.expect("a statement is marked") })
+                    }
+                };
+                assert_eq!(check(&policy, &program), expected, "{policy:?} {program:?}");
+                accepted += usize::from(number == 0);
+            }
+            assert!(accepted > TRIES / 8 && accepted < 7 * TRIES / 8, "{accepted}");
         }
-        assert!(accepted > TRIES / 8 && accepted < 7 * TRIES / 8, "{accepted}");
-    }
+    });
 }
 
 #[test]
 fn damage_has_its_number_at_its_place() {
-    let mut rng = Rng::new(5);
-    let assert_refused = |name: &str, refused: Refused| {
-        let found = Program::read(&refused.policy, &refused.bytes);
-        assert_eq!(found, Err(refused.refusal), "{name}: {:02x?}", refused.bytes);
-    };
-    for part in PARTS {
-        for _ in 0..TRIES / 2 {
-            assert_refused(&format!("{part:?}"), wrong_part(&mut rng, part));
+    with_both_seeds(|mut rng| {
+        let assert_refused = |name: &str, refused: Refused| {
+            let found = Program::read(&refused.policy, &refused.bytes);
+            assert_eq!(found, Err(refused.refusal), "{name}: {:02x?}", refused.bytes);
+        };
+        for part in PARTS {
+            for _ in 0..TRIES / 2 {
+                assert_refused(&format!("{part:?}"), wrong_part(&mut rng, part));
+            }
         }
-    }
-    for make in [ends_early, left_over, over_length, too_deep_statement, too_deep_expression] {
-        for _ in 0..TRIES {
-            assert_refused("", make(&mut rng));
+        for make in [ends_early, left_over, over_length, too_deep_statement, too_deep_expression] {
+            for _ in 0..TRIES {
+                assert_refused("", make(&mut rng));
+            }
         }
-    }
+    });
 }
 
 #[test]
@@ -117,25 +132,27 @@ fn largest_programs_are_accepted() {
 /// What is at most what is also found by a search along the pairs listed, for every two atoms.
 #[test]
 fn order_is_what_a_search_reaches() {
-    let mut rng = Rng::new(6);
-    let mut derived = 0;
-    for _ in 0..TRIES / 20 {
-        let policy = generate_program::policy(&mut rng, 1, 0);
-        let atoms = atoms(&policy);
-        let known: Vec<Query> =
-            (0..rng.below(6)).map(|_| Query(*rng.pick(&atoms), *rng.pick(&atoms))).collect();
-        let order = known.iter().fold(Order::new(&policy), |order, query| order.knowing(*query));
-        for from in &atoms {
-            let reached = reached_from(&policy, &known, *from);
-            for to in &atoms {
-                let found = order.at_most(Join::of([*from]), *to);
-                assert_eq!(found, reached.contains(to), "{from:?} {to:?} {known:?} {policy:?}");
-                derived += usize::from(found);
+    with_both_seeds(|mut rng| {
+        let mut derived = 0;
+        for _ in 0..TRIES / 20 {
+            let policy = generate_program::policy(&mut rng, 1, 0);
+            let atoms = atoms(&policy);
+            let known: Vec<Query> =
+                (0..rng.below(6)).map(|_| Query(*rng.pick(&atoms), *rng.pick(&atoms))).collect();
+            let order =
+                known.iter().fold(Order::new(&policy), |order, query| order.knowing(*query));
+            for from in &atoms {
+                let reached = reached_from(&policy, &known, *from);
+                for to in &atoms {
+                    let found = order.at_most(Join::of([*from]), *to);
+                    assert_eq!(found, reached.contains(to), "{from:?} {to:?} {known:?} {policy:?}");
+                    derived += usize::from(found);
+                }
             }
+            assert!(atoms.iter().all(|atom| order.at_most(Join::EMPTY, *atom)));
         }
-        assert!(atoms.iter().all(|atom| order.at_most(Join::EMPTY, *atom)));
-    }
-    assert!(derived > TRIES);
+        assert!(derived > TRIES);
+    });
 }
 
 fn reached_from(policy: &Policy, known: &[Query], from: Atom) -> Vec<Atom> {

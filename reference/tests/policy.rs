@@ -1,9 +1,13 @@
 //! The proved library against the reference: every number and every meaning, on random policies.
-//! Each run has a fresh seed, which it prints; `RX_SEED` gives one again.
+//! With a fixed seed and with a fresh one, which is printed; `RX_SEED` gives one again.
 
-mod common;
+mod common {
+    pub mod framed;
+    pub mod seeds;
+}
 
-use common::{seed, Framed};
+use common::framed::Framed;
+use common::seeds::with_both_seeds;
 use reference::damage::{one_row_fault, two_row_faults, FILE_FAULTS, ROW_FAULTS};
 use reference::generate::{chain_back, chain_onward, circle, dense, encode};
 use reference::generate::{noise, valid, valid_of_size};
@@ -23,64 +27,21 @@ const NO_ROLES: [u32; 7] = [64, 65, 255, 256, 0x1_0000, 0x8000_0000, u32::MAX];
 
 #[test]
 fn proved_library_agrees_on_random_policies() {
-    let mut run = Run::new();
-    for _ in 0..VALID {
-        let bytes = encode(&valid(&mut run.rng));
-        run.expect("valid", 0, &bytes);
-    }
-    for (number, name, make) in &FILE_FAULTS {
-        for _ in 0..EACH_FAULT {
-            let bytes = make(&mut run.rng);
-            run.expect(name, *number, &bytes);
+    for run in with_both_seeds(|rng| Run::new(rng).all_kinds()) {
+        println!("{} policies, answers by number {:?}", run.policies, run.answers);
+        assert!(run.policies >= LEAST_POLICIES);
+        for (number, count) in run.answers.iter().enumerate() {
+            assert!(*count >= LEAST_OF_EACH_NUMBER, "number {number} came up {count} times");
         }
-    }
-    for fault in &ROW_FAULTS {
-        for _ in 0..EACH_FAULT {
-            let bytes = one_row_fault(&mut run.rng, fault);
-            run.expect(fault.name, fault.number, &bytes);
-        }
-    }
-    for _ in 0..TWO_FAULTS {
-        let (number, bytes) = two_row_faults(&mut run.rng);
-        run.expect("two faults", number, &bytes);
-    }
-    for _ in 0..NOISE {
-        let bytes = noise(&mut run.rng);
-        run.compare("noise", &bytes);
-    }
-    println!("{} policies, answers by number {:?}", run.policies, run.answers);
-    assert!(run.policies >= LEAST_POLICIES);
-    for (number, count) in run.answers.iter().enumerate() {
-        assert!(*count >= LEAST_OF_EACH_NUMBER, "number {number} came up {count} times");
     }
 }
 
 #[test]
 fn proved_library_agrees_at_the_boundaries() {
-    let mut run = Run::new();
-    for policy in [chain_onward(), chain_back(), circle(), dense()] {
-        run.expect("largest", 0, &encode(&policy));
+    for run in with_both_seeds(|rng| Run::new(rng).boundaries()) {
+        println!("{} policies, answers by number {:?}", run.policies, run.answers);
+        assert!(run.answers[..4].iter().all(|count| *count > 0));
     }
-    for principals in [1, 2, 31, 32] {
-        for roles in [0, 1, 2, 63, 64] {
-            let bytes = encode(&valid_of_size(&mut run.rng, principals, roles));
-            run.expect("boundary", 0, &bytes);
-            for length in (0..=8).chain(bytes.len() - 1..=bytes.len() + 1) {
-                let mut bytes = bytes.clone();
-                bytes.resize(length, 0);
-                run.compare("boundary, length", &bytes);
-            }
-            for at in 0..7 {
-                for byte in 0..=255 {
-                    let mut bytes = bytes.clone();
-                    bytes[at] = byte;
-                    run.compare("boundary, head", &bytes);
-                }
-            }
-        }
-    }
-    println!("{} policies, answers by number {:?}", run.policies, run.answers);
-    assert!(run.answers[..4].iter().all(|count| *count > 0));
 }
 
 struct Run {
@@ -91,8 +52,61 @@ struct Run {
 }
 
 impl Run {
-    fn new() -> Run {
-        Run { rng: Rng::new(seed()), policies: 0, answers: [0; 8] }
+    fn new(rng: Rng) -> Run {
+        Run { rng, policies: 0, answers: [0; 8] }
+    }
+
+    fn all_kinds(mut self) -> Run {
+        for _ in 0..VALID {
+            let bytes = encode(&valid(&mut self.rng));
+            self.expect("valid", 0, &bytes);
+        }
+        for (number, name, make) in &FILE_FAULTS {
+            for _ in 0..EACH_FAULT {
+                let bytes = make(&mut self.rng);
+                self.expect(name, *number, &bytes);
+            }
+        }
+        for fault in &ROW_FAULTS {
+            for _ in 0..EACH_FAULT {
+                let bytes = one_row_fault(&mut self.rng, fault);
+                self.expect(fault.name, fault.number, &bytes);
+            }
+        }
+        for _ in 0..TWO_FAULTS {
+            let (number, bytes) = two_row_faults(&mut self.rng);
+            self.expect("two faults", number, &bytes);
+        }
+        for _ in 0..NOISE {
+            let bytes = noise(&mut self.rng);
+            self.compare("noise", &bytes);
+        }
+        self
+    }
+
+    fn boundaries(mut self) -> Run {
+        for policy in [chain_onward(), chain_back(), circle(), dense()] {
+            self.expect("largest", 0, &encode(&policy));
+        }
+        for principals in [1, 2, 31, 32] {
+            for roles in [0, 1, 2, 63, 64] {
+                let bytes = encode(&valid_of_size(&mut self.rng, principals, roles));
+                self.expect("boundary", 0, &bytes);
+                for length in (0..=8).chain(bytes.len() - 1..=bytes.len() + 1) {
+                    let mut bytes = bytes.clone();
+                    bytes.resize(length, 0);
+                    self.compare("boundary, length", &bytes);
+                }
+                for at in 0..7 {
+                    for byte in 0..=255 {
+                        let mut bytes = bytes.clone();
+                        bytes[at] = byte;
+                        self.compare("boundary, head", &bytes);
+                    }
+                }
+            }
+        }
+        self
     }
 
     /// Compares, where the number is also known by how the policy was made.

@@ -1,13 +1,14 @@
 //! The proved library against the reference: every number, every place and every transaction's
-//! body, on random programs under random policies. Each run has a fresh seed, which it prints;
-//! `RX_SEED` gives one again.
+//! body, on random programs under random policies, with a fixed seed and with a fresh one, which is
+//! printed; `RX_SEED` gives one again.
 
-mod common;
+mod common {
+    pub mod framed;
+    pub mod seeds;
+}
 
-use std::ops::AddAssign;
-use std::thread;
-
-use common::{seed, Framed};
+use common::framed::Framed;
+use common::seeds::with_both_seeds;
 use reference::damage::{one_row_fault, two_row_faults, FILE_FAULTS, ROW_FAULTS};
 use reference::damage_program::{
     ends_early, left_over, over_length, too_deep_expression, too_deep_statement, wrong_part,
@@ -26,7 +27,7 @@ use reference::proved_program as proved;
 use reference::rng::Rng;
 use reference::writer::FAULTS;
 
-/// How many of each kind, in each of two threads.
+/// How many of each kind, with each seed.
 const ANY: usize = 10_000;
 const RICH: usize = 30_000;
 const EACH_FAULT: usize = 1_500;
@@ -39,32 +40,24 @@ const EACH_POLICY_FAULT: usize = 50;
 const EVERY_POSITION: usize = 10;
 const EVERY_POSITION_EVERY_BYTE: usize = 1;
 
-const THREADS: u64 = 2;
-const LEAST_PROGRAMS: usize = 200_000;
-const LEAST_OF_EACH_NUMBER: usize = 1_000;
+const LEAST_PROGRAMS: usize = 100_000;
+const LEAST_OF_EACH_NUMBER: usize = 500;
 
 #[test]
 fn proved_library_agrees_on_random_programs() {
-    let seed = seed();
-    let runs: Vec<Counts> = thread::scope(|scope| {
-        let threads: Vec<_> = (0..THREADS)
-            .map(|thread| scope.spawn(move || Run::new(seed.wrapping_add(thread)).all_kinds()))
-            .collect();
-        threads.into_iter().map(|thread| thread.join().expect("both agree")).collect()
-    });
-    let mut counts = Counts::default();
-    runs.into_iter().for_each(|run| counts += run);
-    println!(
-        "{} programs, answers by number {:?}; of {} with transaction, query and update {} accepted",
-        counts.programs, counts.answers, counts.rich, counts.rich_accepted
-    );
-    assert!(counts.programs >= LEAST_PROGRAMS);
-    for number in (0..=6).chain(10..=18) {
-        let count = counts.answers[number];
-        let least = if number < 10 { 1 } else { LEAST_OF_EACH_NUMBER };
-        assert!(count >= least, "number {number} came up {count} times");
+    for counts in with_both_seeds(|rng| Run::new(rng).all_kinds()) {
+        println!(
+            "{} programs, answers by number {:?}; with transaction, query and update {}, {} accepted",
+            counts.programs, counts.answers, counts.rich, counts.rich_accepted
+        );
+        assert!(counts.programs >= LEAST_PROGRAMS);
+        for number in (0..=6).chain(10..=18) {
+            let count = counts.answers[number];
+            let least = if number < 10 { 1 } else { LEAST_OF_EACH_NUMBER };
+            assert!(count >= least, "number {number} came up {count} times");
+        }
+        assert!(4 * counts.rich_accepted >= counts.rich);
     }
-    assert!(4 * counts.rich_accepted >= counts.rich);
 }
 
 #[derive(Default)]
@@ -77,25 +70,14 @@ struct Counts {
     rich_accepted: usize,
 }
 
-impl AddAssign for Counts {
-    fn add_assign(&mut self, other: Counts) {
-        self.programs += other.programs;
-        for (count, more) in self.answers.iter_mut().zip(other.answers) {
-            *count += more;
-        }
-        self.rich += other.rich;
-        self.rich_accepted += other.rich_accepted;
-    }
-}
-
 struct Run {
     rng: Rng,
     counts: Counts,
 }
 
 impl Run {
-    fn new(seed: u64) -> Run {
-        Run { rng: Rng::new(seed), counts: Counts::default() }
+    fn new(rng: Rng) -> Run {
+        Run { rng, counts: Counts::default() }
     }
 
     fn all_kinds(mut self) -> Counts {

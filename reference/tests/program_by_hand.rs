@@ -1,6 +1,11 @@
 //! Programs written out by hand from document 01, with the numbers and places it gives them; both
 //! the reference and the proved library are held to these.
 
+mod common {
+    pub mod seeds;
+}
+
+use common::seeds::with_both_seeds;
 use reference::damage_program::{nested, nested_expression};
 use reference::encode::encode;
 use reference::flow;
@@ -8,7 +13,6 @@ use reference::generate::valid_of_size;
 use reference::policy::{Policy, Row};
 use reference::program::{Atom, Kind, Labels, Program, Query, Statement};
 use reference::proved_program as proved;
-use reference::rng::Rng;
 use reference::shapes::*;
 use reference::worked::{E, F};
 
@@ -324,21 +328,28 @@ fn expression_depth() {
         assert_refused(&labels, &with(&left(16))[..before.len() + 16], DEPTH, before.len() + 16);
         assert_refused(&labels, &with(&left(15))[..before.len() + 15], LENGTH, before.len() + 15);
     }
-    // Each statement's expression begins at depth 1, however deep the statement.
-    let mut rng = Rng::new(1);
-    let query = Query(Atom::Everyone, Atom::Everyone);
-    for _ in 0..100 {
-        let deepest = assign(0, nested_expression(&mut rng, 16));
-        let statement = nested(&mut rng, query, 31, deepest);
-        let mut program = Program { labels: vec![OPEN], statement };
-        let file = encode(&mut program);
-        assert_eq!(file.too_deep, None);
-        let policy = valid_of_size(&mut rng, 2, 0);
-        assert_eq!(Program::read(&policy, &file.bytes), Ok(program));
-        let policy = reference::generate::encode(&policy);
-        let number = proved::program(&policy, &file.bytes);
-        assert!(number == 0 || number == TRANSACTION, "{number}: {:02x?}", file.bytes);
-    }
+}
+
+/// Each statement's expression begins at depth 1, however deep the statement: all is read, and only
+/// then refused with 15, where a query stands outside a transaction or a transaction in another.
+#[test]
+fn expression_depth_in_deep_statements() {
+    with_both_seeds(|mut rng| {
+        let query = Query(Atom::Everyone, Atom::Everyone);
+        for _ in 0..100 {
+            let deepest = assign(0, nested_expression(&mut rng, 16));
+            let statement = nested(&mut rng, query, 31, deepest);
+            let mut program = Program { labels: vec![OPEN], statement };
+            let file = encode(&mut program);
+            assert_eq!(file.too_deep, None);
+            let policy = valid_of_size(&mut rng, 2, 0);
+            assert_eq!(Program::read(&policy, &file.bytes), Ok(program));
+            let policy = reference::generate::encode(&policy);
+            let found = proved::verdict(&policy, &file.bytes);
+            assert!(found.0 == 0 || found.0 == TRANSACTION, "{found:?}: {:02x?}", file.bytes);
+            assert_eq!(found, flow::verdict(&policy, &file.bytes), "{:02x?}", file.bytes);
+        }
+    });
 }
 
 /// The labels of v0, open, and of v1, which has a role on both sides.

@@ -1,12 +1,7 @@
-//! What the differential tests share: the seed of a run, and buffers that show a write.
+//! Buffers that show a write.
 
-use std::collections::hash_map::RandomState;
-use std::env;
-use std::hash::{BuildHasher, Hasher};
 use std::hint::black_box;
-use std::io::{self, Write};
 use std::ops::Range;
-use std::sync::OnceLock;
 
 use reference::rng::Rng;
 
@@ -36,18 +31,4 @@ impl Framed {
         let (all, copy) = black_box((&self.all, &self.copy));
         assert!(all == copy, "the call wrote to its input {copy:02x?}");
     }
-}
-
-/// One seed for all tests of this run.
-pub fn seed() -> u64 {
-    static SEED: OnceLock<u64> = OnceLock::new();
-    *SEED.get_or_init(|| {
-        let seed = match env::var("RX_SEED") {
-            Ok(given) => given.parse().expect("RX_SEED is a decimal number of 64 bits"),
-            Err(_) => RandomState::new().build_hasher().finish(),
-        };
-        // Past the test harness, which would keep it back and lose it in a crash.
-        writeln!(io::stderr(), "RX_SEED={seed}").expect("standard error can be written");
-        seed
-    })
 }
