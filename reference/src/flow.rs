@@ -4,7 +4,7 @@
 
 use crate::number;
 use crate::order::{Join, Order};
-use crate::policy::Policy;
+use crate::policy::{Policy, Side, SIDES};
 use crate::program::{
     Atom, Expression, Form, Kind, Labels, Mutation, Program, Query, Refusal, Statement, Transaction,
 };
@@ -38,7 +38,7 @@ pub fn accepted(policy: &[u8], program: &[u8]) -> Result<Program, Refusal> {
 
 /// The same by other rules.
 pub fn accepted_by(rules: &Rules, policy: &[u8], program: &[u8]) -> Result<Program, Refusal> {
-    let policy = Policy::read(policy).map_err(|number| Refusal { number, place: 0 })?;
+    let policy = Policy::read_by(rules, policy).map_err(|number| Refusal { number, place: 0 })?;
     let program = Program::read(&policy, program)?;
     check_by(rules, &policy, &program)?;
     Ok(program)
@@ -56,15 +56,6 @@ pub fn check_by(rules: &Rules, policy: &Policy, program: &Program) -> Result<(),
     let start = Context { joins: Sides::both(|_| Join::EMPTY), order: &order, transaction: None };
     checker.statement(&program.statement, start)
 }
-
-#[derive(Clone, Copy, Debug, PartialEq, Eq)]
-pub enum Side {
-    Reading,
-    Trust,
-}
-
-/// In the order of their numbers.
-pub const SIDES: [Side; 2] = [Side::Reading, Side::Trust];
 
 impl Side {
     pub fn number(self) -> u32 {
@@ -176,7 +167,10 @@ impl Checker<'_> {
                     false => context.joins,
                     true => Sides::both(|_| Join::EMPTY),
                 };
-                let flowing = joins.joined(|side| side.expression_label(self.labels, expression));
+                let flowing = match self.rules.expression_dropped {
+                    false => joins.joined(|side| side.expression_label(self.labels, expression)),
+                    true => joins,
+                };
                 let derivable =
                     |side: Side| context.order.at_most(flowing.on(side), side.label(label));
                 self.both_sides(statement, derivable)
@@ -208,13 +202,18 @@ impl Checker<'_> {
                 let Some(around) = context.transaction else {
                     return refuse(number::TRANSACTION);
                 };
-                let allowed = mutations.iter().all(|mutation| may_make(self.policy, mutation));
+                let allowed =
+                    mutations.iter().all(|mutation| may_make_by(self.rules, self.policy, mutation));
                 if !allowed && !self.rules.grants_unchecked {
                     return refuse(number::ADDED);
                 }
+                let joins = match self.rules.context_dropped_at_update {
+                    false => context.joins,
+                    true => Sides::both(|_| Join::EMPTY),
+                };
                 let flowing = match self.rules.listed_left_out {
-                    false => context.joins.joined(|side| around.list_labels.on(side)),
-                    true => context.joins,
+                    false => joins.joined(|side| around.list_labels.on(side)),
+                    true => joins,
                 };
                 let derivable = |side: Side| {
                     let mut written = around.written.labels(side, self.labels);
@@ -223,7 +222,7 @@ impl Checker<'_> {
                 self.both_sides(statement, derivable)
             }
             Form::Transaction(transaction) => {
-                if context.transaction.is_some() {
+                if context.transaction.is_some() && !self.rules.nesting_allowed {
                     return refuse(number::TRANSACTION);
                 }
                 self.transaction(transaction, context)
@@ -233,13 +232,17 @@ impl Checker<'_> {
 
     fn transaction(&self, transaction: &Transaction, context: Context) -> Result<(), Refusal> {
         let list = &transaction.list;
+        let mut written = Written::anywhere_in(&transaction.body);
+        if self.rules.roles_left_out {
+            written.roles = 0;
+        }
         let around = Around {
             list,
             list_labels: Sides::both(|side| {
                 list.iter()
                     .fold(Join::EMPTY, |join, query| join | side.query_label_by(self.rules, *query))
             }),
-            written: Written::anywhere_in(&transaction.body),
+            written,
         };
         self.statement(&transaction.body, Context { transaction: Some(&around), ..context })
     }
@@ -258,7 +261,8 @@ impl Checker<'_> {
         statement: &Statement,
         derivable: impl Fn(Side) -> bool,
     ) -> Result<(), Refusal> {
-        match SIDES.into_iter().find(|side| !derivable(*side)) {
+        let refused = |side: &Side| self.rules.unchecked != Some(*side) && !derivable(*side);
+        match SIDES.into_iter().find(refused) {
             Some(side) => Err(Refusal { number: side.number(), place: statement.at }),
             None => Ok(()),
         }
@@ -267,13 +271,14 @@ impl Checker<'_> {
 
 /// Whether the policy file allows what is added; any delete is allowed.
 pub fn may_make(policy: &Policy, mutation: &Mutation) -> bool {
+    may_make_by(&Rules::default(), policy, mutation)
+}
+
+fn may_make_by(rules: &Rules, policy: &Policy, mutation: &Mutation) -> bool {
     let row = &policy.rows[usize::from(mutation.role)];
     match mutation.kind {
-        Kind::AddMember => row.viewers & row.trusters & 1 << mutation.operand != 0,
-        Kind::AddTaken => {
-            let taken = &policy.rows[usize::from(mutation.operand)];
-            taken.viewers == row.viewers && taken.trusters == row.trusters
-        }
+        Kind::AddMember => row.may_hold(rules, 1 << mutation.operand),
+        Kind::AddTaken => row.may_take(rules, &policy.rows[usize::from(mutation.operand)]),
         Kind::DeleteMember | Kind::DeleteTaken => true,
     }
 }

@@ -2,10 +2,9 @@
 //! the first marked statement. The numbers are written out, so that none is taken from what they are
 //! there to test.
 
-use crate::flow::{Side, SIDES};
 use crate::generate::{free_name, valid_of_size};
 use crate::generate_program::{label, Case};
-use crate::policy::{Policy, Row};
+use crate::policy::{Policy, Row, Side, SIDES};
 use crate::program::{Atom, Labels, Program, Query, Statement, MOST_LISTED};
 use crate::rng::Rng;
 use crate::shapes::*;

@@ -3,6 +3,7 @@
 //! role j.
 
 use crate::number;
+use crate::rules::Rules;
 
 pub const MARK_AND_VERSION: [u8; 5] = *b"RXT\x01\x00";
 pub const HEAD_BYTES: usize = 7;
@@ -27,6 +28,25 @@ pub struct Row {
     pub takes: u64,
 }
 
+/// Reading and trust: the two sides of a policy and of the flow rules, which are the same on both.
+#[derive(Clone, Copy, Debug, PartialEq, Eq)]
+pub enum Side {
+    Reading,
+    Trust,
+}
+
+/// In the order of their numbers.
+pub const SIDES: [Side; 2] = [Side::Reading, Side::Trust];
+
+impl Side {
+    pub fn other(self) -> Side {
+        match self {
+            Side::Reading => Side::Trust,
+            Side::Trust => Side::Reading,
+        }
+    }
+}
+
 /// The number 0 to 6 of any bytes.
 pub fn check(bytes: &[u8]) -> u32 {
     Policy::read(bytes).map_or_else(|refusal| refusal, |_| number::ACCEPTED)
@@ -45,6 +65,11 @@ impl Policy {
     /// The policy that the bytes hold, or the first refusal in the document's order: the head,
     /// then 4 and 5 row by row, then 6.
     pub fn read(bytes: &[u8]) -> Result<Policy, u32> {
+        Policy::read_by(&Rules::default(), bytes)
+    }
+
+    /// The same by other rules.
+    pub fn read_by(rules: &Rules, bytes: &[u8]) -> Result<Policy, u32> {
         let principals = check_head(bytes)?;
         let rows = bytes[HEAD_BYTES..].chunks_exact(ROW_BYTES);
         let policy = Policy { principals, rows: rows.map(Row::read).collect() };
@@ -53,7 +78,7 @@ impl Policy {
             row.check_owner(&policy.rows[..role])?;
         }
         for row in &policy.rows {
-            policy.check_holding(row)?;
+            policy.check_holding(rules, row)?;
         }
         Ok(policy)
     }
@@ -71,18 +96,13 @@ impl Policy {
         Ok(())
     }
 
-    fn check_holding(&self, row: &Row) -> Result<(), u32> {
-        let members_allowed = lies_in(row.members, row.viewers & row.trusters);
-        if !members_allowed || !row.taken().all(|role| self.may_take(row, role)) {
+    fn check_holding(&self, rules: &Rules, row: &Row) -> Result<(), u32> {
+        let may_take =
+            |role: usize| self.rows.get(role).is_some_and(|taken| row.may_take(rules, taken));
+        if !row.may_hold(rules, row.members) || !row.taken().all(may_take) {
             return Err(number::POLICY_HOLDING);
         }
         Ok(())
-    }
-
-    fn may_take(&self, row: &Row, role: usize) -> bool {
-        self.rows
-            .get(role)
-            .is_some_and(|taken| taken.viewers == row.viewers && taken.trusters == row.trusters)
     }
 
     /// The meaning of every role: the least sets where each role holds its members and all that
@@ -126,6 +146,30 @@ impl Row {
             return Err(number::POLICY_OWNER);
         }
         Ok(())
+    }
+
+    /// The row's viewers or trusters.
+    fn audience(&self, side: Side) -> u32 {
+        match side {
+            Side::Reading => self.viewers,
+            Side::Trust => self.trusters,
+        }
+    }
+
+    /// Whether these principals may be members: all are viewers and trusters.
+    pub fn may_hold(&self, rules: &Rules, principals: u32) -> bool {
+        match rules.members_on {
+            None => lies_in(principals, self.viewers & self.trusters),
+            Some(side) => lies_in(principals, self.audience(side)),
+        }
+    }
+
+    /// Whether the other role may be taken in: it has the same viewers and trusters.
+    pub fn may_take(&self, rules: &Rules, taken: &Row) -> bool {
+        match rules.taken_on {
+            None => taken.viewers == self.viewers && taken.trusters == self.trusters,
+            Some(side) => taken.audience(side) == self.audience(side),
+        }
     }
 
     /// The roles whose bit stands in takes, lowest first.

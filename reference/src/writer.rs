@@ -5,9 +5,9 @@
 
 use std::rc::Rc;
 
-use crate::flow::{may_make, Side, Sides, Written, SIDES};
+use crate::flow::{may_make, Sides, Written};
 use crate::order::{atoms, Join, Order};
-use crate::policy::Policy;
+use crate::policy::{Policy, Side, SIDES};
 use crate::program::{
     Atom, Expression, Kind, Labels, Mutation, Operator, Program, Query, Statement,
     MOST_EXPRESSION_DEPTH, MOST_LISTED, MOST_MUTATIONS, MOST_STATEMENT_DEPTH,

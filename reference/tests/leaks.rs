@@ -1,18 +1,18 @@
 //! For each of document 01's rules that demand 3 leans on, two runs that leak where that one rule
-//! is broken: its worked runs first, then the exhibits. Each exhibit is made for the reading side
-//! and shown on the trust side too, with the two sides swapped.
+//! is broken. Each exhibit is made for the reading side and shown on the trust side too, with the two
+//! sides swapped. By the document's rules its verdict, number and place, is written here, and both
+//! the reference and the proved library are held to it.
 
 use reference::encode::encode;
-use reference::flow::{self, Side};
+use reference::flow;
 use reference::generate;
-use reference::number;
-use reference::policy::{Policy, Row};
-use reference::program::{
-    Atom, Expression, Form, Kind, Labels, Operator, Program, Query, Statement, Transaction,
-};
+use reference::policy::{Policy, Row, Side, SIDES};
+use reference::program::{Atom, Form, Kind, Labels, Program, Query, Statement, Transaction};
 use reference::rules::Rules;
-use reference::run::{self, set, Made, Run};
+use reference::run::{self, set, Made};
 use reference::shapes::*;
+use reference::worked::E;
+use reference::{proved, proved_program};
 
 const FUEL: u32 = 1000;
 
@@ -66,7 +66,7 @@ fn leak(rules: &Rules, exhibit: &Exhibit, observer: u8, side: Side) -> Result<()
     }
     let runs =
         starts.map(|(policy, memory)| run::run_by(rules, policy, &exhibit.program, memory, FUEL));
-    if runs.iter().any(|run| run.number != number::ACCEPTED) {
+    if runs.iter().any(|run| run.number != 0) {
         return Err(NoLeak::Spent);
     }
     if runs.iter().flat_map(|run| &run.updates).any(|made| puts_in(made, observer)) {
@@ -172,23 +172,42 @@ fn swap_query(query: &mut Query) {
     }
 }
 
-/// Refused with this number (17 on the trust side is 18), but a leak where the rule is broken.
-fn assert_rule_refuses(broken: Rules, exhibit: &Exhibit, refusal: u32) {
-    let on_trust = if refusal == number::READING { number::TRUST } else { refusal };
-    let swapped = swapped(exhibit);
-    let sides = [(exhibit, Side::Reading, refusal), (&swapped, Side::Trust, on_trust)];
-    for (exhibit, side, refusal) in sides {
-        let found = leak(&Rules::default(), exhibit, 0, side);
-        assert_eq!(found, Err(NoLeak::Refused(refusal)), "{side:?}");
-        assert_eq!(leak(&broken, exhibit, 0, side), Ok(()), "{side:?}");
+/// By the document's rules both the reference and the proved library give the program this number
+/// at this place, under either policy.
+fn assert_verdict(exhibit: &Exhibit, expected: (u32, usize)) {
+    let program = encode(&mut exhibit.program.clone()).bytes;
+    for policy in &exhibit.policies {
+        let policy = generate::encode(policy);
+        assert_eq!(flow::verdict(&policy, &program), expected, "reference");
+        assert_eq!(proved_program::verdict(&policy, &program), expected, "proved");
+        assert_eq!(proved_program::program(&policy, &program), expected.0, "proved");
     }
 }
 
-/// Accepted and no leak, but a leak where the rule is broken.
+/// The exhibit as it is and with the sides swapped, each with the side that it is for and the rules
+/// that are broken for it.
+fn on_both_sides(broken: Rules, exhibit: &Exhibit) -> [(Exhibit, Side, Rules); 2] {
+    [(exhibit.clone(), Side::Reading, broken), (swapped(exhibit), Side::Trust, broken.swapped())]
+}
+
+/// Refused with this number (17 on the reading side is 18 on the trust side) at this place, but a
+/// leak where the rule is broken.
+fn assert_rule_refuses(broken: Rules, exhibit: &Exhibit, number: u32, place: usize) {
+    for (exhibit, side, broken) in on_both_sides(broken, exhibit) {
+        let number = if (number, side) == (17, Side::Trust) { 18 } else { number };
+        assert_verdict(&exhibit, (number, place));
+        let found = leak(&Rules::default(), &exhibit, 0, side);
+        assert_eq!(found, Err(NoLeak::Refused(number)), "{side:?}");
+        assert_eq!(leak(&broken, &exhibit, 0, side), Ok(()), "{side:?}");
+    }
+}
+
+/// Accepted and no leak, but a leak where the rule, one of the run's, is broken.
 fn assert_rule_stops(broken: Rules, exhibit: &Exhibit) {
-    for (exhibit, side) in [(exhibit, Side::Reading), (&swapped(exhibit), Side::Trust)] {
-        assert_eq!(leak(&Rules::default(), exhibit, 0, side), Err(NoLeak::EndsAlike), "{side:?}");
-        assert_eq!(leak(&broken, exhibit, 0, side), Ok(()), "{side:?}");
+    for (exhibit, side, broken) in on_both_sides(broken, exhibit) {
+        assert_verdict(&exhibit, (0, 0));
+        assert_eq!(leak(&Rules::default(), &exhibit, 0, side), Err(NoLeak::EndsAlike), "{side:?}");
+        assert_eq!(leak(&broken, &exhibit, 0, side), Ok(()), "{side:?}");
     }
 }
 
@@ -245,21 +264,40 @@ fn known_in_else() {
     let roles = [(BOTH, OTHER), (BOTH, OBSERVER)];
     let statement = asking(Query(R0, R1), skip(), assign(1, variable(0)));
     let broken = Rules { known_in_else: true, ..Rules::default() };
-    assert_rule_refuses(broken, &differing_in_v0(&roles, R0, R1, statement), number::READING);
+    assert_rule_refuses(broken, &differing_in_v0(&roles, R0, R1, statement), 17, 18);
 }
 
 #[test]
 fn context_dropped() {
     let broken = Rules { context_dropped: true, ..Rules::default() };
-    assert_rule_refuses(broken, &guarded_by_if(), number::READING);
-    assert_rule_refuses(broken, &guarded_by_while(), number::READING);
+    assert_rule_refuses(broken, &guarded_by_if(), 17, 13);
+    assert_rule_refuses(broken, &guarded_by_while(), 17, 22);
 }
 
 #[test]
 fn guard_not_joined() {
     let broken = Rules { guard_not_joined: true, ..Rules::default() };
-    assert_rule_refuses(broken, &guarded_by_if(), number::READING);
-    assert_rule_refuses(broken, &guarded_by_while(), number::READING);
+    assert_rule_refuses(broken, &guarded_by_if(), 17, 13);
+    assert_rule_refuses(broken, &guarded_by_while(), 17, 22);
+}
+
+#[test]
+fn expression_dropped() {
+    let broken = Rules { expression_dropped: true, ..Rules::default() };
+    assert_rule_refuses(broken, &plain_copy(), 17, 10);
+}
+
+/// On the reading side there is no 17, on the trust side no 18.
+#[test]
+fn side_unchecked() {
+    let broken = Rules { unchecked: Some(Side::Reading), ..Rules::default() };
+    assert_rule_refuses(broken, &plain_copy(), 17, 10);
+    assert_rule_refuses(broken, &updated_under_if(), 17, 15);
+}
+
+/// The hidden v0 is assigned to v1, which everyone reads.
+fn plain_copy() -> Exhibit {
+    differing_in_v0(&[(BOTH, OTHER)], R0, Atom::Everyone, assign(1, variable(0)))
 }
 
 /// v1 tells whether the hidden v0 is nonzero.
@@ -276,7 +314,7 @@ fn guarded_by_while() -> Exhibit {
 #[test]
 fn query_not_joined() {
     let broken = Rules { query_not_joined: true, ..Rules::default() };
-    assert_rule_refuses(broken, &hidden_role_asked(), number::READING);
+    assert_rule_refuses(broken, &hidden_role_asked(), 17, 15);
 }
 
 /// v0 tells whether principal 1 is a member of role 0, whose row principal 0 does not view.
@@ -295,7 +333,7 @@ fn query_first_atom() {
         asking(Query(R0, R1), assign(0, constant(1)), skip()),
     );
     let broken = Rules { query_first_atom: true, ..Rules::default() };
-    assert_rule_refuses(broken, &exhibit, number::READING);
+    assert_rule_refuses(broken, &exhibit, 17, 15);
 }
 
 /// Whether the transaction rolls back depends on the hidden role 1, and after the restart the
@@ -312,20 +350,66 @@ fn listed_left_out() {
     let exhibit =
         differing_in_policy([roles(OTHER), roles(0)], transaction([all, Query(R1, R2)], body));
     let broken = Rules { listed_left_out: true, ..Rules::default() };
-    assert_rule_refuses(broken, &exhibit, number::READING);
+    assert_rule_refuses(broken, &exhibit, 17, 33);
+}
+
+#[test]
+fn context_dropped_at_update() {
+    let broken = Rules { context_dropped_at_update: true, ..Rules::default() };
+    assert_rule_refuses(broken, &updated_under_if(), 17, 15);
+}
+
+/// The row of role 0, which both view, tells whether the hidden v0 is nonzero.
+fn updated_under_if() -> Exhibit {
+    let statement = if_else(variable(0), transaction([], delete_member(0, 1)), skip());
+    differing_in_v0(&[(BOTH, OTHER)], R0, Atom::Everyone, statement)
+}
+
+#[test]
+fn roles_left_out() {
+    let broken = Rules { roles_left_out: true, ..Rules::default() };
+    assert_rule_refuses(broken, &updated_under_if(), 17, 15);
+}
+
+/// The same in bytes under policy E: v1 has role 0 on both sides and so is hidden from principal 1,
+/// who views and trusts role 0's row. Where v1 is 1 that row ends empty, where it is 0 as it was.
+#[test]
+fn roles_left_out_under_policy_e() {
+    let program = [
+        0x52, 0x58, 0x50, 0x01, 0x00, 0x02, 0xFF, 0xFF, 0x00, 0x00, // head and labels
+        0x03, 0x01, 0x01, // if v1
+        0x07, 0x00, 0x06, 0x01, 0x01, 0x00, 0x00, // transaction, update: delete member (0, 0)
+        0x00, // skip
+    ];
+    let policy = Policy::read(&E).expect("policy E is accepted");
+    let tree = Program::read(&policy, &program).expect("the program can be read");
+    let exhibit = Exhibit {
+        policies: [policy.clone(), policy],
+        program: tree,
+        memories: [vec![0, 1], vec![0, 0]],
+    };
+    assert_eq!(encode(&mut exhibit.program.clone()).bytes, program);
+    assert_verdict(&exhibit, (17, 15));
+    let broken = Rules { roles_left_out: true, ..Rules::default() };
+    for side in SIDES {
+        assert_eq!(leak(&broken, &exhibit, 1, side), Ok(()), "{side:?}");
+    }
+    let ends = exhibit
+        .memories
+        .map(|memory| run::run_by(&broken, &exhibit.policies[0], &exhibit.program, &memory, FUEL));
+    assert_eq!(ends.map(|end| end.policy.rows[0].members), [0, 1]);
 }
 
 #[test]
 fn role_below_viewers() {
-    let exhibit = differing_in_v0(&[(BOTH, OTHER)], R0, Atom::Everyone, assign(1, variable(0)));
     let broken = Rules { role_below_viewers: true, ..Rules::default() };
-    assert_rule_refuses(broken, &exhibit, number::READING);
+    assert_rule_refuses(broken, &plain_copy(), 17, 10);
 }
 
 #[test]
 fn inclusion_unreversed() {
     let broken = Rules { inclusion_unreversed: true, ..Rules::default() };
-    assert_rule_refuses(broken, &hidden_role_asked(), number::READING);
+    assert_rule_refuses(broken, &hidden_role_asked(), 17, 15);
 }
 
 #[test]
@@ -336,18 +420,75 @@ fn query_unreversed() {
     assert_rule_stops(broken, &differing_in_v0(&roles, R0, R1, statement));
 }
 
-/// Role 0, which principal 0 views, comes to take role 1, which they do not.
 #[test]
 fn grants_unchecked() {
+    let broken = Rules { grants_unchecked: true, ..Rules::default() };
+    assert_rule_refuses(broken, &taken_by_update(), 16, 14);
+}
+
+/// Role 0, which principal 0 views, comes to take role 1, which they do not.
+fn taken_by_update() -> Exhibit {
     let roles = |members| policy(&[(BOTH, 0), (OTHER, members), (BOTH, OTHER)]);
     let query = Query(R0, R2);
     let body = block([
         update([mutation(Kind::AddTaken, 0, 1)]),
         ask(query, assign(0, constant(1)), skip()),
     ]);
-    let exhibit = differing_in_policy([roles(0), roles(OTHER)], transaction([query], body));
-    let broken = Rules { grants_unchecked: true, ..Rules::default() };
-    assert_rule_refuses(broken, &exhibit, number::ADDED);
+    differing_in_policy([roles(0), roles(OTHER)], transaction([query], body))
+}
+
+/// Role 0 takes role 1, whose trusters are the same but which principal 0 does not view: what role
+/// 0 means depends on a row that is hidden, in the policy file or after an update.
+#[test]
+fn taken_roles_judged_on_one_side() {
+    let broken = Rules { taken_on: Some(Side::Trust), ..Rules::default() };
+    assert_rule_refuses(broken, &taken_by_update(), 16, 14);
+    let taking = |members| {
+        let mut policy = policy(&[(BOTH, OBSERVER), (OTHER, members)]);
+        policy.rows[0].takes = 0b10;
+        policy
+    };
+    let exhibit = differing_in_policy(
+        [taking(0), taking(OTHER)],
+        asking(Query(R0, Atom::Everyone), assign(0, constant(1)), skip()),
+    );
+    assert_rule_refuses(broken, &exhibit, 6, 0);
+}
+
+/// Principal 0 is a member of role 0, trusts its row and does not view it. So they read v0, which
+/// has that role, and to which anything that depends on its row may flow.
+#[test]
+fn members_judged_on_one_side() {
+    let exhibit = Exhibit {
+        policies: [policy(&[(OTHER, OBSERVER)]), policy(&[(OTHER, BOTH)])],
+        program: Program {
+            labels: vec![read_by(R0)],
+            statement: asking(Query(R0, Atom::Everyone), assign(0, constant(1)), skip()),
+        },
+        memories: [vec![0], vec![0]],
+    };
+    let broken = Rules { members_on: Some(Side::Trust), ..Rules::default() };
+    assert_rule_refuses(broken, &exhibit, 6, 0);
+}
+
+/// In rule 16 alone that is no leak of ends. What protects an observer is that they view the row of
+/// each role they are in: adding another principal changes nothing in that, and adding them is a
+/// gain, or they were in the role before and so viewed its row. What it breaks is that a run leaves
+/// an accepted policy: the next call would refuse this one with 6.
+#[test]
+fn members_added_by_one_side() {
+    let statement = transaction([], add_member(0, 0));
+    let exhibit =
+        differing_in_policy([policy(&[(OTHER, 0)]), policy(&[(OTHER, OTHER)])], statement);
+    let broken = Rules { members_on: Some(Side::Trust), ..Rules::default() };
+    for (exhibit, side, broken) in on_both_sides(broken, &exhibit) {
+        assert_verdict(&exhibit, (16, 10));
+        assert_eq!(leak(&broken, &exhibit, 0, side), Err(NoLeak::Gains), "{side:?}");
+        let end = run::run_by(&broken, &exhibit.policies[0], &exhibit.program, &[0], FUEL);
+        assert_eq!((end.number, end.policy.rows[0].members), (0, OBSERVER));
+        assert_eq!(proved::policy(&generate::encode(&exhibit.policies[0])), 0);
+        assert_eq!(proved::policy(&generate::encode(&end.policy)), 6);
+    }
 }
 
 /// The two queries that the flow is derived from never hold together.
@@ -371,7 +512,20 @@ fn unlisted_allowed() {
     let statement = transaction([Query(R2, R0)], one_query_after_the_other());
     let exhibit = differing_in_v0(&OPEN_ROLES, R2, R1, statement);
     let broken = Rules { unlisted_allowed: true, ..Rules::default() };
-    assert_rule_refuses(broken, &exhibit, number::TRANSACTION);
+    assert_rule_refuses(broken, &exhibit, 15, 14);
+}
+
+/// The update stands in a transaction of its own, which lists nothing: what is known around that one
+/// fails without a rollback.
+#[test]
+fn nesting_allowed() {
+    let then = ask(Query(R2, R0), assign(1, variable(0)), skip());
+    let first = block([transaction([], delete_member(0, 0)), then]);
+    let body = ask(Query(R0, R1), first, skip());
+    let statement = transaction([Query(R0, R1), Query(R2, R0)], body);
+    let exhibit = differing_in_v0(&OPEN_ROLES, R2, R1, statement);
+    let broken = Rules { nesting_allowed: true, ..Rules::default() };
+    assert_rule_refuses(broken, &exhibit, 15, 21);
 }
 
 /// The first query holds only after the transaction's first update.
@@ -395,8 +549,9 @@ fn gaining_is_no_leak() {
     let end = run::run(&gaining.policies[0], &gaining.program, &gaining.memories[0], FUEL);
     assert_eq!(set(&end.policy, R0), BOTH, "v0, which differs, is open at the end");
     for (exhibit, expected) in [(gaining, NoLeak::Gains), (adding(1), NoLeak::EndsAlike)] {
-        for (exhibit, side) in [(&exhibit, Side::Reading), (&swapped(&exhibit), Side::Trust)] {
-            assert_eq!(leak(&Rules::default(), exhibit, 0, side).as_ref(), Err(&expected));
+        for (exhibit, side, rules) in on_both_sides(Rules::default(), &exhibit) {
+            assert_verdict(&exhibit, (0, 0));
+            assert_eq!(leak(&rules, &exhibit, 0, side).as_ref(), Err(&expected));
         }
     }
 }
@@ -407,6 +562,7 @@ fn other_pairs_are_no_leak() {
     let by_default = |exhibit: &Exhibit| leak(&Rules::default(), exhibit, 0, Side::Reading);
     let roles = [(BOTH, OTHER)];
     let alike = differing_in_v0(&roles, R0, Atom::Everyone, skip());
+    assert_verdict(&alike, (0, 0));
     assert_eq!(by_default(&alike), Err(NoLeak::EndsAlike));
     // Principal 1 reads v0.
     assert_eq!(leak(&Rules::default(), &alike, 1, Side::Reading), Err(NoLeak::StartsDiffer));
@@ -417,100 +573,6 @@ fn other_pairs_are_no_leak() {
     assert_eq!(by_default(&viewers), Err(NoLeak::FixedPartsDiffer));
     let endless = while_true(constant(1), skip());
     let spent = differing_in_v0(&roles, R0, Atom::Everyone, endless);
+    assert_verdict(&spent, (0, 0));
     assert_eq!(by_default(&spent), Err(NoLeak::Spent));
-}
-
-/// Policy F of the worked cases.
-fn policy_f() -> Policy {
-    let row = |owner, members, takes| Row {
-        owner,
-        name: 1,
-        viewers: BOTH,
-        trusters: BOTH,
-        members,
-        takes,
-    };
-    Policy { principals: 2, rows: vec![row(0, 0, 2), row(1, OTHER, 0)] }
-}
-
-/// The worked program on policy F, with one pair listed and asked.
-fn run_on_f(query: Query, fuel: u32) -> Run {
-    let first = block([update([mutation(Kind::DeleteTaken, 0, 1)]), assign(0, constant(1))]);
-    let mut program = Program { labels: vec![OPEN], statement: asking(query, first, skip()) };
-    let bytes = encode(&mut program).bytes;
-    let policy = generate::encode(&policy_f());
-    assert_eq!(flow::accepted(&policy, &bytes), Ok(program.clone()));
-    run::run(&policy_f(), &program, &[7], fuel)
-}
-
-#[test]
-fn rollback_on_f() {
-    let mut after = policy_f();
-    after.rows[0].takes = 0;
-    let made = Made { before: policy_f(), after: after.clone() };
-    for fuel in [6, 7, 1_000_000] {
-        let found = run_on_f(Query(R0, R1), fuel);
-        let updates = vec![made.clone()];
-        let end = Run { number: 0, units: 6, policy: after.clone(), memory: vec![7], updates };
-        assert_eq!(found, end);
-    }
-    for fuel in 1..=5 {
-        let found = run_on_f(Query(R0, R1), fuel);
-        let updates = if fuel < 3 { vec![] } else { vec![made.clone()] };
-        let end = Run { number: 22, units: fuel, policy: policy_f(), memory: vec![7], updates };
-        assert_eq!(found, end);
-    }
-}
-
-#[test]
-fn no_rollback_on_f_reversed() {
-    let found = run_on_f(Query(R1, R0), 1_000_000);
-    assert_eq!((found.number, found.units, &found.memory[..]), (0, 4, &[1][..]));
-    assert_eq!(found.policy.rows[0].takes, 0);
-    assert_eq!(found.updates.len(), 1);
-    assert_eq!(run_on_f(Query(R1, R0), 3).number, 22);
-}
-
-/// The worked program v1 := v0 + 5.
-#[test]
-fn worked_sum() {
-    let statement = assign(1, binary(Operator::Sum, variable(0), constant(5)));
-    let program = Program { labels: vec![OPEN, labels(R0, R0)], statement };
-    let found = run::run(&policy(&[(BOTH, OBSERVER)]), &program, &[7, 0], 1_000_000);
-    assert_eq!((found.number, found.units, found.memory), (0, 1, vec![7, 12]));
-}
-
-#[test]
-fn values() {
-    for (operator, left, right, expected) in [
-        (Operator::Quotient, -7, 2, -3),
-        (Operator::Quotient, 7, -2, -3),
-        (Operator::Quotient, 7, 0, 0),
-        (Operator::Quotient, i32::MIN, 0, 0),
-        (Operator::Quotient, i32::MIN, -1, i32::MIN),
-        (Operator::Quotient, i32::MIN, 1, i32::MIN),
-        (Operator::Sum, 2147483647, 1, -2147483648),
-        (Operator::Difference, -2147483648, 1, 2147483647),
-        (Operator::Product, 65536, 65536, 0),
-        (Operator::Product, 65536, 32768, i32::MIN),
-        (Operator::Less, -1, 0, 1),
-        (Operator::Less, 0, 0, 0),
-        (Operator::Equal, 3, 3, 1),
-        (Operator::Equal, 3, -3, 0),
-    ] {
-        let expression: Expression = binary(operator, constant(left), constant(right));
-        assert_eq!(run::value(&expression, &[]), expected, "{operator:?} {left} {right}");
-    }
-}
-
-/// Each test of a while, each if and each skip is a unit; a block is none.
-#[test]
-fn units_of_loops() {
-    let less = binary(Operator::Difference, variable(0), constant(1));
-    let body = block([assign(0, less), if_else(variable(0), skip(), block([]))]);
-    let program = Program { labels: vec![OPEN], statement: while_true(variable(0), body) };
-    let run_with = |fuel| run::run(&policy(&[]), &program, &[3], fuel);
-    // Four tests, three assignments, three ifs, two skips.
-    assert_eq!((run_with(12).number, run_with(12).units), (0, 12));
-    assert_eq!((run_with(11).number, run_with(11).units), (22, 11));
 }
