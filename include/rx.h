@@ -1,6 +1,6 @@
 /* The calls of the proved RX library. Every call takes every input: a pointer must point to as many bytes as the length
-   beside it says (any non-null pointer where the length is 0), and a result pointer to a word that may be written. No
-   call writes to a policy or a program. */
+   beside it says (any pointer where the length is 0, a null pointer too), and a result pointer to a word that may be
+   written. No call writes to a policy or a program. */
 #ifndef RX_H
 #define RX_H
 
@@ -25,9 +25,10 @@ uint32_t rx_program(const uint8_t *policy, size_t policy_len, const uint8_t *pro
 uint32_t rx_transaction(const uint8_t *policy, size_t policy_len, const uint8_t *program, size_t program_len, uint32_t k,
                         size_t *start, size_t *length);
 
-/* The same number, and where it shows: for 10 to 14 the offset of the first byte in reading order that shows it (the
-   program's length where it ends early, 4,096 where it is too long), for 15 to 18 the offset of the statement's code
-   byte, else 0. */
+/* The same number, and where it shows: for 10 to 14 the offset of the first byte in reading order that shows it, for 15
+   to 18 the offset of the statement's code byte, else 0. For 10 it is the program's length where it ends early, 4,096
+   where it is too long, and the first of them where bytes are left over. For 14 it is where the statement or expression
+   that is too deep stands or would stand: the program's length where no byte is left for it. */
 uint32_t rx_place(const uint8_t *policy, size_t policy_len, const uint8_t *program, size_t program_len, size_t *place);
 
 #ifdef __cplusplus

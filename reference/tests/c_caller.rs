@@ -1,4 +1,4 @@
-//! The library as C sees it: `caller.c` is compiled against `include/rx.h` and linked with the
+//! The library as C and C++ see it: `caller.c` is compiled against `include/rx.h` and linked with the
 //! proved library alone.
 
 use std::path::Path;
@@ -6,21 +6,33 @@ use std::process::{Command, Output};
 
 #[test]
 fn a_c_program_gets_the_documents_answers() {
-    let package = Path::new(env!("CARGO_MANIFEST_DIR"));
-    let caller = Path::new(env!("CARGO_TARGET_TMPDIR")).join("caller");
     // Rust's own linker on this target, so it is there wherever these tests are built.
-    let compiled = Command::new("cc")
-        .args(["-std=c99", "-pedantic", "-Wall", "-Wextra", "-Werror", "-I"])
-        .arg(package.join("../include"))
-        .arg(package.join("tests/caller.c"))
-        .arg(package.join("../target/staticlib/librx.a"))
-        .arg("-o")
-        .arg(&caller)
-        .output()
-        .expect("cc can be run");
-    assert!(compiled.status.success(), "cc: {}", text(&compiled));
-    let called = Command::new(caller).output().expect("the caller can be run");
-    assert!(called.status.success(), "caller: {}", text(&called));
+    assert_gets_answers("cc", &["-std=c99"], "caller-c");
+}
+
+#[test]
+fn a_cpp_program_gets_the_documents_answers() {
+    assert_gets_answers("c++", &["-std=c++11", "-x", "c++"], "caller-cpp");
+}
+
+/// Compiles the caller without a warning, links and runs it.
+fn assert_gets_answers(compiler: &str, language: &[&str], name: &str) {
+    let package = Path::new(env!("CARGO_MANIFEST_DIR"));
+    let folder = Path::new(env!("CARGO_TARGET_TMPDIR"));
+    let (object, caller) = (folder.join(name).with_extension("o"), folder.join(name));
+    let mut compile = Command::new(compiler);
+    compile.args(language).args(["-pedantic", "-Wall", "-Wextra", "-Werror", "-I"]);
+    compile.arg(package.join("../include")).arg("-c").arg(package.join("tests/caller.c"));
+    assert_runs(compile.arg("-o").arg(&object));
+    let mut link = Command::new(compiler);
+    link.arg(&object).arg(package.join("../target/staticlib/librx.a"));
+    assert_runs(link.arg("-o").arg(&caller));
+    assert_runs(&mut Command::new(caller));
+}
+
+fn assert_runs(command: &mut Command) {
+    let output = command.output().unwrap_or_else(|error| panic!("{command:?}: {error}"));
+    assert!(output.status.success(), "{command:?}: {}", text(&output));
 }
 
 fn text(output: &Output) -> String {

@@ -1,4 +1,5 @@
-/* Calls the proved library as a C program does, through include/rx.h, and fails where an answer is not document 01's. */
+/* Calls the proved library as a C program does, through include/rx.h, and fails where an answer is not document 01's.
+   Compiled as C and as C++. */
 #include "rx.h"
 
 #include <stdio.h>
@@ -25,9 +26,50 @@ static void expect(const char *what, size_t answer, size_t wanted) {
     }
 }
 
+/* Files of no bytes, at this pointer: too short for a policy, and a program that ends early at 0. */
+static void expect_of_empty(const uint8_t *empty) {
+    uint32_t bits = 99;
+    size_t place = 99, start = 99, length = 99;
+
+    expect("empty policy", rx_policy(empty, 0), 1);
+    expect("empty policy's meaning", rx_meaning(empty, 0, 0, &bits), 1);
+    expect("empty policy's bits", bits, 0);
+
+    expect("program under empty policy", rx_program(empty, 0, accepted, sizeof accepted), 1);
+    expect("empty program", rx_program(policy, sizeof policy, empty, 0), 10);
+    expect("both empty", rx_program(empty, 0, empty, 0), 1);
+
+    expect("place under empty policy", rx_place(empty, 0, leak, sizeof leak, &place), 1);
+    expect("its place", place, 0);
+    place = 99;
+    expect("place of empty program", rx_place(policy, sizeof policy, empty, 0, &place), 10);
+    expect("its place", place, 0);
+    place = 99;
+    expect("place of both empty", rx_place(empty, 0, empty, 0, &place), 1);
+    expect("its place", place, 0);
+
+    expect("body under empty policy",
+           rx_transaction(empty, 0, transaction, sizeof transaction, 0, &start, &length), 1);
+    expect("its start", start, 0);
+    expect("its length", length, 0);
+    start = length = 99;
+    expect("body of empty program", rx_transaction(policy, sizeof policy, empty, 0, 0, &start, &length), 10);
+    expect("its start", start, 0);
+    expect("its length", length, 0);
+    start = length = 99;
+    expect("body of both empty", rx_transaction(empty, 0, empty, 0, 0, &start, &length), 1);
+    expect("its start", start, 0);
+    expect("its length", length, 0);
+}
+
 int main(void) {
     uint32_t bits = 99;
     size_t place = 99, start = 99, length = 99;
+
+    /* No bytes at a null pointer, as a C program has them of an empty file; behind other bytes; and before them. */
+    expect_of_empty(NULL);
+    expect_of_empty(policy + sizeof policy);
+    expect_of_empty(accepted);
 
     expect("policy", rx_policy(policy, sizeof policy), 0);
     expect("policy without its last byte", rx_policy(policy, sizeof policy - 1), 1);
