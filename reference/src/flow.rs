@@ -3,8 +3,8 @@
 //! counts. Reading and trust are two sides with the same rules.
 
 use crate::number;
-use crate::order::{Join, Order};
-use crate::policy::{Policy, Side, SIDES};
+use crate::order::{Join, KnownOrder, Order};
+use crate::policy::{bits, Policy, Side, SIDES};
 use crate::program::{
     Atom, Expression, Form, Kind, Labels, Mutation, Program, Query, Refusal, Statement, Transaction,
 };
@@ -23,10 +23,7 @@ pub fn verdict(policy: &[u8], program: &[u8]) -> (u32, usize) {
 /// where there is none or a file is refused.
 pub fn transaction(policy: &[u8], program: &[u8], k: u32) -> (usize, usize) {
     match accepted(policy, program) {
-        Ok(program) => {
-            let transactions = program.transactions();
-            transactions.get(k as usize).map_or((0, 0), |transaction| transaction.body_part())
-        }
+        Ok(program) => program.body_part(k),
         Err(_) => (0, 0),
     }
 }
@@ -51,9 +48,18 @@ pub fn check(policy: &Policy, program: &Program) -> Result<(), Refusal> {
 
 /// The same by other rules.
 pub fn check_by(rules: &Rules, policy: &Policy, program: &Program) -> Result<(), Refusal> {
+    check_from(rules, policy, program, &Order::new_by(rules, policy))
+}
+
+/// The same by the order with no query known, however that is kept.
+pub fn check_from(
+    rules: &Rules,
+    policy: &Policy,
+    program: &Program,
+    order: &impl KnownOrder,
+) -> Result<(), Refusal> {
     let checker = Checker { rules, policy, labels: &program.labels };
-    let order = Order::new_by(rules, policy);
-    let start = Context { joins: Sides::both(|_| Join::EMPTY), order: &order, transaction: None };
+    let start = Context { joins: Sides::both(|_| Join::EMPTY), order, transaction: None };
     checker.statement(&program.statement, start)
 }
 
@@ -134,20 +140,28 @@ impl Sides {
 }
 
 /// What holds where a statement stands.
-#[derive(Clone, Copy)]
-struct Context<'a> {
+struct Context<'a, O> {
     joins: Sides,
     /// By the queries known here.
-    order: &'a Order,
+    order: &'a O,
     transaction: Option<&'a Around<'a>>,
 }
+
+impl<O> Clone for Context<'_, O> {
+    fn clone(&self) -> Self {
+        *self
+    }
+}
+
+impl<O> Copy for Context<'_, O> {}
 
 /// The transaction around a statement.
 struct Around<'a> {
     list: &'a [Query],
     /// The labels of all listed queries.
     list_labels: Sides,
-    written: Written,
+    /// The labels of all that is written.
+    written: Sides,
 }
 
 struct Checker<'a> {
@@ -157,7 +171,11 @@ struct Checker<'a> {
 }
 
 impl Checker<'_> {
-    fn statement(&self, statement: &Statement, context: Context) -> Result<(), Refusal> {
+    fn statement<O: KnownOrder>(
+        &self,
+        statement: &Statement,
+        context: Context<O>,
+    ) -> Result<(), Refusal> {
         let refuse = |number| Err(Refusal { number, place: statement.at });
         match &statement.form {
             Form::Skip => Ok(()),
@@ -193,7 +211,8 @@ impl Checker<'_> {
                     false => context.joins.joined(|side| side.query_label_by(self.rules, *query)),
                     true => context.joins,
                 };
-                let order = &context.order.knowing(*query);
+                let learned = context.order.learning(*query);
+                let order = learned.as_ref().unwrap_or(context.order);
                 self.statement(first, Context { joins, order, ..context })?;
                 let order = if self.rules.known_in_else { order } else { context.order };
                 self.statement(second, Context { joins, order, ..context })
@@ -216,8 +235,7 @@ impl Checker<'_> {
                     true => joins,
                 };
                 let derivable = |side: Side| {
-                    let mut written = around.written.labels(side, self.labels);
-                    written.all(|label| context.order.at_most(flowing.on(side), label))
+                    context.order.at_most_each(flowing.on(side), around.written.on(side))
                 };
                 self.both_sides(statement, derivable)
             }
@@ -230,7 +248,11 @@ impl Checker<'_> {
         }
     }
 
-    fn transaction(&self, transaction: &Transaction, context: Context) -> Result<(), Refusal> {
+    fn transaction<O: KnownOrder>(
+        &self,
+        transaction: &Transaction,
+        context: Context<O>,
+    ) -> Result<(), Refusal> {
         let list = &transaction.list;
         let mut written = Written::anywhere_in(&transaction.body);
         if self.rules.roles_left_out {
@@ -242,13 +264,13 @@ impl Checker<'_> {
                 list.iter()
                     .fold(Join::EMPTY, |join, query| join | side.query_label_by(self.rules, *query))
             }),
-            written,
+            written: Sides::both(|side| Join::of(written.labels(side, self.labels))),
         };
         self.statement(&transaction.body, Context { transaction: Some(&around), ..context })
     }
 
     /// The context of what an if or while holds.
-    fn under<'a>(&self, condition: &Expression, context: Context<'a>) -> Context<'a> {
+    fn under<'a, O>(&self, condition: &Expression, context: Context<'a, O>) -> Context<'a, O> {
         if self.rules.guard_not_joined {
             return context;
         }
@@ -312,8 +334,4 @@ impl Written {
         let variables = bits(self.variables).map(move |variable| side.label(labels[variable]));
         variables.chain(bits(self.roles).map(move |role| side.audience(role as u8)))
     }
-}
-
-fn bits(set: u64) -> impl Iterator<Item = usize> {
-    (0..64).filter(move |bit| set >> bit & 1 == 1)
 }

@@ -65,6 +65,12 @@ pub fn assignments() -> Case {
     full(mixed_labels(), |filling| block([blocks(240, assignment), filling]))
 }
 
+/// As many transactions as there is room for, of three bytes each.
+pub fn transactions() -> Case {
+    let transaction = |_| transaction([], skip());
+    full(mixed_labels(), |filling| block([blocks(1314, transaction), filling]))
+}
+
 /// 30 queries nested, 16 of them different, with statements in their second branches: some 690
 /// updates in one transaction, of every role, and every variable assigned.
 pub fn nested_queries() -> Case {

@@ -21,6 +21,7 @@ pub mod generate_program;
 pub mod generate_rules;
 pub mod largest;
 pub mod loosen;
+pub mod opponent;
 pub mod proved;
 pub mod proved_program;
 pub mod rng;

@@ -3,9 +3,13 @@
 
 use std::ops::BitOr;
 
-use crate::policy::{lies_in, Policy};
+use crate::policy::{bits, lies_in, Policy};
 use crate::program::{Atom, Query};
 use crate::rules::Rules;
+
+mod incremental;
+
+pub use incremental::Incremental;
 
 /// 64 roles, their viewers, their trusters, and everyone.
 pub const ATOMS: usize = 193;
@@ -45,6 +49,11 @@ impl Join {
     fn lies_in(self, whole: Join) -> bool {
         self | whole == whole
     }
+
+    fn indexes(self) -> impl Iterator<Item = usize> {
+        let indexes = |(word, set)| bits(set).map(move |bit| 64 * word + bit);
+        self.0.into_iter().enumerate().flat_map(indexes)
+    }
 }
 
 impl BitOr for Join {
@@ -55,7 +64,22 @@ impl BitOr for Join {
     }
 }
 
-/// The order under a set of known queries: for each atom all that are at most it.
+/// The order under a set of known queries, however it is kept.
+pub trait KnownOrder: Sized {
+    /// The order when one more query is known, or none where it is the same.
+    fn learning(&self, query: Query) -> Option<Self>;
+
+    /// Whether a join is at most each of these atoms.
+    fn at_most_each(&self, join: Join, atoms: Join) -> bool;
+
+    /// A join is at most an atom when each of its atoms is.
+    fn at_most(&self, join: Join, atom: Atom) -> bool {
+        self.at_most_each(join, Join::of([atom]))
+    }
+}
+
+/// The order as it is read in the document: for each atom all that are at most it, closed anew with
+/// each query.
 #[derive(Clone, Debug, PartialEq, Eq)]
 pub struct Order {
     below: [Join; ATOMS],
@@ -113,11 +137,6 @@ impl Order {
         order
     }
 
-    /// A join is at most an atom when each of its atoms is.
-    pub fn at_most(&self, join: Join, atom: Atom) -> bool {
-        join.lies_in(self.below[atom.index()])
-    }
-
     fn put(&mut self, first: Atom, second: Atom) {
         self.below[second.index()].insert(first.index());
     }
@@ -132,6 +151,16 @@ impl Order {
                 }
             }
         }
+    }
+}
+
+impl KnownOrder for Order {
+    fn learning(&self, query: Query) -> Option<Order> {
+        Some(self.knowing(query))
+    }
+
+    fn at_most_each(&self, join: Join, atoms: Join) -> bool {
+        atoms.indexes().all(|atom| join.lies_in(self.below[atom]))
     }
 }
 

@@ -174,15 +174,7 @@ impl Row {
 
     /// The roles whose bit stands in takes, lowest first.
     pub fn taken(&self) -> impl Iterator<Item = usize> {
-        let mut left = self.takes;
-        std::iter::from_fn(move || {
-            if left == 0 {
-                return None;
-            }
-            let role = left.trailing_zeros() as usize;
-            left &= left - 1;
-            Some(role)
-        })
+        bits(self.takes)
     }
 }
 
@@ -202,6 +194,20 @@ fn check_head(bytes: &[u8]) -> Result<u8, u32> {
         return Err(number::POLICY_LENGTH);
     }
     Ok(principals)
+}
+
+/// The bits of a set, lowest first.
+#[inline]
+pub fn bits(set: u64) -> impl Iterator<Item = usize> {
+    let mut left = set;
+    std::iter::from_fn(move || {
+        if left == 0 {
+            return None;
+        }
+        let bit = left.trailing_zeros() as usize;
+        left &= left - 1;
+        Some(bit)
+    })
 }
 
 /// Inclusion of principal sets.

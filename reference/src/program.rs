@@ -115,6 +115,12 @@ impl Program {
         });
         found
     }
+
+    /// Where the body of transaction k starts, and how long it is: 0 and 0 where there is none.
+    pub fn body_part(&self, k: u32) -> (usize, usize) {
+        let transactions = self.transactions();
+        transactions.get(k as usize).map_or((0, 0), |transaction| transaction.body_part())
+    }
 }
 
 impl Statement {

@@ -12,7 +12,7 @@ use reference::flow::check;
 use reference::generate_program::{self, any, rich, with_fault, Case};
 use reference::generate_rules::{chain_of_queries, written_elsewhere};
 use reference::largest;
-use reference::order::{atoms, Join, Order};
+use reference::order::{atoms, Join, KnownOrder, Order};
 use reference::policy::Policy;
 use reference::program::{Atom, Form, Program, Query, Refusal, MOST_BYTES};
 use reference::writer::FAULTS;
@@ -116,6 +116,7 @@ fn largest_programs_are_accepted() {
     let cases = [
         largest::skips(),
         largest::assignments(),
+        largest::transactions(),
         largest::nested_queries(),
         largest::known_queries(),
     ];

@@ -19,7 +19,7 @@ use reference::flow::accepted;
 use reference::generate::encode as encode_policy;
 use reference::generate_program::{any, rich, small, with_fault, Case};
 use reference::generate_rules::{chain_of_queries, written_elsewhere};
-use reference::largest::{assignments, known_queries, nested_queries, skips};
+use reference::largest::{assignments, known_queries, nested_queries, skips, transactions};
 use reference::loosen::{loosened, noise};
 use reference::policy::Policy;
 use reference::program::{Form, Program};
@@ -91,7 +91,7 @@ impl Run {
     }
 
     fn accepted(&mut self) {
-        let largest = [skips(), assignments(), nested_queries(), known_queries()];
+        let largest = [skips(), assignments(), transactions(), nested_queries(), known_queries()];
         for case in largest {
             self.expect_case("largest", 0, case);
         }

@@ -70,7 +70,11 @@ impl Reader<'_> {
         count: u8,
         read: impl Fn(&mut Self) -> Result<T, Refusal>,
     ) -> Result<Vec<T>, Refusal> {
-        (0..count).map(|_| read(self)).collect()
+        let mut all = Vec::with_capacity(usize::from(count));
+        for _ in 0..count {
+            all.push(read(self)?);
+        }
+        Ok(all)
     }
 
     fn mark_and_version(&mut self) -> Result<(), Refusal> {

@@ -1,26 +1,30 @@
-//! `cargo run --release --bin bench`: the proved library and the reference side by side, in
-//! nanoseconds a call, on policies of 64 roles and 32 principals and on the smallest with a role,
-//! and on programs of 4,096 bytes under such a policy and on the smallest.
+//! `cargo run --release --bin bench`: the proved library and an unproved opponent side by side, in
+//! nanoseconds of processor time a call, on policies of 64 roles and 32 principals and on the smallest
+//! with a role, and on programs of 4,096 bytes under such a policy and on the smallest. The opponent
+//! is the reference; on programs, with the order made for speed.
 
 use std::fmt::Debug;
 use std::hint::black_box;
-use std::time::{Duration, Instant};
+use std::time::Duration;
 
 use reference::generate::{chain_back, chain_onward, circle, dense, encode, valid_of_size};
 use reference::policy::{Policy, Row};
 use reference::rng::Rng;
 use reference::{policy, proved};
 
+mod clock;
 mod programs;
 
 /// Each line is the pair of batches with the median ratio. A busy machine slows both of a pair
 /// alike; the best of each side would come from different moments, and erred by a fifth.
 const BATCHES: usize = 200;
+/// So long that reading the clock, which asks the system, does not count.
 const BATCH_TIME: Duration = Duration::from_micros(500);
-/// So many that reading the clock between them does not count; fewer of calls that take long.
-const CALLS_AT_ONCE: u32 = 50;
 
 fn main() {
+    // The system's allocator takes a large block given back as a sign to keep memory: otherwise the
+    // unproved side would pay, in each call, for memory that the call before gave back.
+    drop(black_box(vec![1_u8; 1 << 20]));
     let worst = policies().max(programs::programs());
     println!("worst ratio {worst:.2}");
 }
@@ -54,7 +58,7 @@ fn policies() -> f64 {
 }
 
 fn print_head(files: &str) {
-    println!("{files:33} {:10} {:>10} {:>13} {:>6}", "call", "proved", "reference", "ratio");
+    println!("{files:33} {:14} {:>10} {:>13} {:>6}", "call", "proved", "unproved", "ratio");
 }
 
 /// One principal, one role, its owner the only member.
@@ -63,47 +67,61 @@ fn minimal() -> Policy {
     Policy { principals: 1, rows: vec![row] }
 }
 
-/// Prints a line of the table; gives the ratio of proved to reference.
+/// Prints a line of the table; gives the ratio of proved to unproved.
 fn compare<T: Debug + PartialEq>(
     line: &str,
     proved: impl Fn() -> T,
-    reference: impl Fn() -> T,
+    unproved: impl Fn() -> T,
 ) -> f64 {
-    assert_eq!(proved(), reference(), "{line}");
+    assert_eq!(proved(), unproved(), "{line}");
+    let (proved, unproved) = (Batch::of(proved), Batch::of(unproved));
     let mut pairs: Vec<Pair> = (0..BATCHES)
-        .map(|_| Pair { proved: nanoseconds(&proved), reference: nanoseconds(&reference) })
+        .map(|_| Pair { proved: proved.nanoseconds(), unproved: unproved.nanoseconds() })
         .collect();
     pairs.sort_by(|one, other| one.ratio().total_cmp(&other.ratio()));
     let median = &pairs[BATCHES / 2];
     let ratio = median.ratio();
-    println!("{line:44} {:7.0} ns {:10.0} ns {ratio:6.2}", median.proved, median.reference);
+    println!("{line:48} {:7.0} ns {:10.0} ns {ratio:6.2}", median.proved, median.unproved);
     ratio
 }
 
 /// Two batches, one right after the other.
 struct Pair {
     proved: f64,
-    reference: f64,
+    unproved: f64,
 }
 
 impl Pair {
     fn ratio(&self) -> f64 {
-        self.proved / self.reference
+        self.proved / self.unproved
     }
 }
 
-/// The time of one call, over one batch.
-fn nanoseconds<T>(call: impl Fn() -> T) -> f64 {
-    let start = Instant::now();
-    black_box(call());
-    let mut calls = 1;
-    while start.elapsed() < BATCH_TIME {
-        let at_once =
-            if start.elapsed() * CALLS_AT_ONCE < BATCH_TIME * calls { CALLS_AT_ONCE } else { 1 };
-        for _ in 0..at_once {
-            black_box(call());
+/// A call, as often as takes some time.
+struct Batch<F> {
+    call: F,
+    calls: u32,
+}
+
+impl<T, F: Fn() -> T> Batch<F> {
+    fn of(call: F) -> Batch<F> {
+        let mut batch = Batch { call, calls: 1 };
+        while batch.time() < BATCH_TIME {
+            batch.calls *= 2;
         }
-        calls += at_once;
+        batch
     }
-    start.elapsed().as_nanos() as f64 / f64::from(calls)
+
+    fn time(&self) -> Duration {
+        let start = clock::processor_time();
+        for _ in 0..self.calls {
+            black_box((self.call)());
+        }
+        clock::processor_time() - start
+    }
+
+    /// The time of one call.
+    fn nanoseconds(&self) -> f64 {
+        self.time().as_nanos() as f64 / f64::from(self.calls)
+    }
 }
