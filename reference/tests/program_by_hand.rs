@@ -111,6 +111,14 @@ fn worked_programs() {
     assert_verdict(&E, &back, (READING, 10));
     let only_trust = program(&[0xFF, 0xFF, 0xFF, 0x00], &[0x01, 0x00, 0x01, 0x01]);
     assert_verdict(&E, &only_trust, (TRUST, 10));
+    // The first label byte is the reading side's, the second the trust side's, of either variable.
+    let only_reading = program(&[0xFF, 0xFF, 0x00, 0xFF], &[0x01, 0x00, 0x01, 0x01]);
+    assert_verdict(&E, &only_reading, (READING, 10));
+    let crossed = [0xFF, 0x00, 0x00, 0xFF];
+    assert_verdict(&E, &program(&crossed, &[0x01, 0x00, 0x01, 0x01]), (READING, 10));
+    assert_verdict(&E, &program(&crossed, &[0x01, 0x01, 0x01, 0x00]), (TRUST, 10));
+    let alike = [0x00, 0xFF, 0x00, 0xFF];
+    assert_verdict(&E, &program(&alike, &[0x01, 0x00, 0x01, 0x01]), (0, 0));
     for (first, second) in [(0x00, 0x01), (0x01, 0x00)] {
         let head = [0x07, 0x01, first, second];
         let body = [
