@@ -7,10 +7,10 @@ use lib.ListN.{length}
 use native.Mathlib.Omega.{arith}
 use lib.Dec.{leb, ltb, eqb}
 use borrow.Author.Tests.{ltb-true, leb-true, eqb-true, lt-ltb, le-leb, eq-eqb}
+use Rattle.model.specs.Limits.{headBytes, principalLimit, roleLimit}
 use Rattle.model.specs.Number.{firstBelow}
 use Rattle.model.specs.Sets.{has, within}
-use Rattle.model.specs.Bytes.{startsWith}
-use Rattle.model.specs.Policy.{policyHead, principals, roles, rowAt, owner, name, viewers, trusters, members, takes, mayTake, Accepted, policyNumber, headNumber, principalNumber, ownerNumber, pairNumber, rowNumber, takenNumber, takesNumber, grantsNumber}
+use Rattle.model.specs.Policy.{hasMark, principals, roles, policyBytes, owner, name, viewers, trusters, members, takes, mayTake, AcceptedHead, Accepted, policyNumber, headNumber, principalNumber, ownerNumber, pairNumber, rowNumber, takenNumber, takesNumber, grantsNumber}
 use Rattle.model.proofs.Number.{unless-zero, first-zero, zero-first, below-zero, zero-below}
 
 -- what holds of row i of an accepted policy
@@ -29,25 +29,26 @@ pub record RowFacts (s : List ℕ) (i : ℕ) : Type 0 where
 
 -- what holds of an accepted policy
 pub record Facts (s : List ℕ) : Type 0 where
-  pub head : startsWith s policyHead ≡ true
+  pub headed : headBytes ≤ length s
+  pub marked : hasMark s ≡ true
   pub principals-some : 1 ≤ principals s
-  pub principals-fit : principals s ≤ 32
-  pub roles-fit : roles s ≤ 64
-  pub long : length s ≡ rowAt (roles s)
+  pub principals-fit : principals s ≤ principalLimit
+  pub roles-fit : roles s ≤ roleLimit
+  pub long : length s ≡ policyBytes s
   pub row : (i : ℕ) → i < roles s → RowFacts s i
 
 -- the head's checks, one by one
-pub head-zero : (s : List ℕ) → headNumber s ≡ 0
-    → (startsWith s policyHead ≡ true) × (1 ≤ principals s) × (principals s ≤ 32) × (roles s ≤ 64) × (length s ≡ rowAt (roles s))
+pub head-zero : (s : List ℕ) → AcceptedHead s
+    → (headBytes ≤ length s) × (hasMark s ≡ true) × (1 ≤ principals s) × (principals s ≤ principalLimit) × (roles s ≤ roleLimit) × (length s ≡ policyBytes s)
 unfolding headNumber
 head-zero s h =
-    let a = unless-zero (leb 7 (length s)) _ _ h in
-    let b = unless-zero (startsWith s policyHead) _ _ (a .1) in
+    let a = unless-zero (leb headBytes (length s)) _ _ h in
+    let b = unless-zero (hasMark s) _ _ (a .1) in
     let c = unless-zero (leb 1 (principals s)) _ _ (b .1) in
-    let d = unless-zero (leb (principals s) 32) _ _ (c .1) in
-    let e = unless-zero (leb (roles s) 64) _ _ (d .1) in
-    let l = unless-zero (eqb (length s) (rowAt (roles s))) _ _ (e .1) in
-    (b .0, leb-true _ _ (c .0), leb-true _ _ (d .0), leb-true _ _ (e .0), eqb-true _ _ (l .0))
+    let d = unless-zero (leb (principals s) principalLimit) _ _ (c .1) in
+    let e = unless-zero (leb (roles s) roleLimit) _ _ (d .1) in
+    let l = unless-zero (eqb (length s) (policyBytes s)) _ _ (e .1) in
+    (leb-true _ _ (a .0), b .0, leb-true _ _ (c .0), leb-true _ _ (d .0), leb-true _ _ (e .0), eqb-true _ _ (l .0))
 
 -- row j does not have the owner and name of row i
 pair-zero : (s : List ℕ) (i j : ℕ) → pairNumber s i j ≡ 0 → owner s i ≡ owner s j → name s i ≡ name s j → ⊥
@@ -96,14 +97,19 @@ row-facts s i h g =
       takes-allowed = allowed;
     }
 
+pub accepted-head : (s : List ℕ) → Accepted s → AcceptedHead s
+unfolding policyNumber
+accepted-head s h = first-zero (headNumber s) _ h .0
+
 pub accepted-facts : (s : List ℕ) → Accepted s → Facts s
 unfolding policyNumber
 accepted-facts s h =
     let a = first-zero (headNumber s) _ h in
     let b = first-zero (firstBelow (rowNumber s) (roles s)) _ (a .1) in
-    let (hd, some, fit, few, len) = head-zero s (a .0) in
+    let (headed, marked, some, fit, few, len) = head-zero s (a .0) in
     record {
-      head = hd;
+      headed = headed;
+      marked = marked;
       principals-some = some;
       principals-fit = fit;
       roles-fit = few;
@@ -111,11 +117,9 @@ accepted-facts s h =
       row = λ i l. row-facts s i (below-zero (rowNumber s) (roles s) (b .0) i l) (below-zero (grantsNumber s) (roles s) (b .1) i l);
     }
 
-zero-head : (s : List ℕ) → Facts s → headNumber s ≡ 0
+zero-head : (s : List ℕ) → Facts s → AcceptedHead s
 unfolding headNumber
-zero-head s f =
-    let seven : 7 ≤ length s = omega arith in
-    search (le-leb, eq-eqb, f .head)
+zero-head s f = search (le-leb, eq-eqb, f .marked)
 
 pub zero-pair : (s : List ℕ) (i j : ℕ) → (owner s i ≡ owner s j → name s i ≡ name s j → ⊥) → pairNumber s i j ≡ 0
 unfolding pairNumber

@@ -1,7 +1,7 @@
 -- Along a run of an accepted statement what is known stays true (it is listed, and what breaks it rolls back), and without gains what is hidden stays hidden (F4); in a transaction that mutates hidden rows only, open rows stay as they are (F3).
 use Prim.Native.Nat.{ℕ}
 use mathlib.Core.Path.{_≡_, refl, subst}
-use mathlib.Core.List.{List, [], _∷_, _++_, List·Memᴰ, List·Memᴰ·head, List·Memᴰ·tail, List·Memᴰ·not-nil, Memᴰ·append-left, Memᴰ·append-right}
+use mathlib.Core.List.{List, [], _∷_, _++_, List·Memᴰ, List·Memᴰ·head, List·Memᴰ·not-nil, Memᴰ·append-left, Memᴰ·append-right}
 use mathlib.Core.Bool.{true}
 use Rattle.model.specs.Policy.{Side}
 use Rattle.model.specs.Mutation.{Mutation}
@@ -10,8 +10,8 @@ use Rattle.model.specs.Flow.{Around, outside, inside}
 use Rattle.model.specs.Atoms.{holds}
 use Rattle.model.specs.Run.{Update, mutateAll}
 use Rattle.model.specs.Claim.{NoGain}
-use Rattle.model.proofs.Fits.{Each, each-cons}
-use Rattle.model.proofs.FlowParts.{Placed, Mutates, Parts, parts}
+use Rattle.model.specs.Fits.{Each}
+use Rattle.model.proofs.FlowParts.{ListedHold, Placed, Mutates, Parts, parts}
 use Rattle.model.proofs.Openness.{Setting, isOpen, Good, Near, near-refl, near-trans, hidden-stays-hidden, unbroken}
 use Rattle.model.proofs.Runs.{End, ends, policyOf, updateOf, Runs, run-skip, run-assign, run-empty, run-block, run-block-rolls, run-then, run-else, run-stop, run-more, run-more-rolls, run-holds, run-fails, run-update, run-update-rolls, run-transaction, run-again}
 use Rattle.model.proofs.Semantics.{AllHold}
@@ -31,17 +31,17 @@ Stands S around known context x = Placed (S .base) (S .program) around known con
 pub rule : (S : Setting) {around : Around} {known : List Query} {context : Side → List Atom} {x : Stmt} → Stands S around known context x → Parts (S .base) (S .program) around known context x
 rule S = parts (S .base) (S .program) (S .base-accepted)
 
--- known queries are listed, and hold now
-abbrev pub ListedHold : List Query → List Query → List ℕ → Type 0
-ListedHold listed known s = Each (λ q. List·Memᴰ q listed × (holds s q ≡ true)) known
-
 -- what is known: nothing outside a transaction, and inside it listed queries that hold
 abbrev pub Known : Around → List Query → List ℕ → Type 0
 Known outside known s = known ≡ []
 Known (inside listed xs rs) known s = ListedHold listed known s
 
+-- so a transaction begins: where nothing is known, all that is known is listed and holds
+pub nothing-known : {known : List Query} (listed : List Query) (s : List ℕ) → known ≡ [] → ListedHold listed known s
+nothing-known listed s e q i = absurd (List·Memᴰ·not-nil (subst (λ (k : List Query). List·Memᴰ q k) e i))
+
 pub all-hold : (around : Around) (known : List Query) (s : List ℕ) → Known around known s → AllHold s known
-all-hold outside known s e = λ q i. absurd (List·Memᴰ·not-nil (subst (λ (k : List Query). List·Memᴰ q k) e i))
+all-hold outside known s e = λ q i. nothing-known [] s e q i .1
 all-hold (inside listed xs rs) known s h = λ q i. h q i .1
 
 -- no gain in a trace is none in its parts
@@ -67,27 +67,28 @@ pub alike-shown : {S : Setting} {s m t n s₁ t₁ : List ℕ} → Alike S s m t
 alike-shown {S} a k near = record { near = near; room1 = a .room1; room2 = a .room2; values = λ x l o. a .values x l (k .was-open (labelOf S x) o) }
 
 module _ (S : Setting) where
-  -- what is known stays true
+  -- a listed query that holds goes on to hold, since an update that fails it rolls back
+  listed-stays : {listed known : List Query} {xs rs : ℕ} {context : Side → List Atom} {x : Stmt} {s m s₁ m₁ : List ℕ} {us : List Update}
+      → Stands S (inside listed xs rs) known context x → Runs listed x s m (ends s₁ m₁) us → (q : Query) → List·Memᴰ q listed → holds s q ≡ true → holds s₁ q ≡ true
+  listed-stays h run-skip q i w = w
+  listed-stays h run-assign q i w = w
+  listed-stays h run-empty q i w = w
+  listed-stays h (run-block d e) q i w = listed-stays (rule S h .1) e q i (listed-stays (rule S h .0) d q i w)
+  listed-stays h (run-then t d) q i w = listed-stays (rule S h .0) d q i w
+  listed-stays h (run-else t d) q i w = listed-stays (rule S h .1) d q i w
+  listed-stays h (run-stop t) q i w = w
+  listed-stays h (run-more t d e) q i w = listed-stays h e q i (listed-stays (rule S h) d q i w)
+  listed-stays h (run-holds t d) q i w = listed-stays (rule S h .0 .placed) d q i w
+  listed-stays h (run-fails t d) q i w = listed-stays (rule S h .1 .placed) d q i w
+  listed-stays {listed} h (run-update {s = s} t) q i w = unbroken listed s _ t q i w
+  listed-stays h (run-transaction d) q i w = absurd (rule S h)
+  listed-stays h (run-again d e) q i w = absurd (rule S h)
+
+  -- so what is known stays true
   pub known-stays : {around : Around} {known : List Query} {context : Side → List Atom} {x : Stmt} {s m s₁ m₁ : List ℕ} {us : List Update}
       → Stands S around known context x → Runs (listedOf around) x s m (ends s₁ m₁) us → Known around known s → Known around known s₁
-  known-stays h run-skip w = w
-  known-stays h run-assign w = w
-  known-stays h run-empty w = w
-  known-stays h (run-block d e) w = known-stays (rule S h .1) e (known-stays (rule S h .0) d w)
-  known-stays h (run-then t d) w = known-stays (rule S h .0) d w
-  known-stays h (run-else t d) w = known-stays (rule S h .1) d w
-  known-stays h (run-stop t) w = w
-  known-stays h (run-more t d e) w = known-stays h e (known-stays (rule S h) d w)
-  known-stays {around = outside} h (run-holds t d) w = w
-  known-stays {around = inside _ _ _} h (run-holds t d) w = λ k i. known-stays (rule S h .1) d (each-cons (rule S h .0, t) w) k (List·Memᴰ·tail i)
-  known-stays {around = outside} h (run-fails t d) w = w
-  known-stays {around = inside _ _ _} h (run-fails t d) w = known-stays (rule S h .2) d w
-  known-stays {around = outside} h (run-update t) w = w
-  known-stays {around = inside listed _ _} h (run-update {s = s} t) w = λ k i. (w k i .0, unbroken listed s _ t k (w k i .0) (w k i .1))
-  known-stays {around = outside} h (run-transaction d) w = w
-  known-stays {around = inside _ _ _} h (run-transaction d) w = absurd (rule S h)
-  known-stays {around = outside} h (run-again d e) w = w
-  known-stays {around = inside _ _ _} h (run-again d e) w = absurd (rule S h)
+  known-stays {around = outside} h d w = w
+  known-stays {around = inside _ _ _} h d w = λ q i. (w q i .0, listed-stays h d q (w q i .0) (w q i .1))
 
   pub update-shows : {rs : ℕ} (ms : List Mutation) {s : List ℕ} → Each (Mutates (S .base) rs) ms → Good S s → NoGain (S .group) (updateOf s ms ∷ []) → ShowsNoMore S s (mutateAll s ms)
   update-shows ms {s} h g n =
@@ -112,9 +113,9 @@ module _ (S : Setting) where
       shows-trans k (hidden-along h e (k .good) (no-gain-later us n))
   hidden-along h (run-more-rolls t d) g n = hidden-along (rule S h) d g n
   hidden-along {around = outside} h (run-holds t d) g n = absurd (rule S h)
-  hidden-along {around = inside _ _ _} h (run-holds t d) g n = hidden-along (rule S h .1) d g n
+  hidden-along {around = inside _ _ _} h (run-holds t d) g n = hidden-along (rule S h .0 .placed) d g n
   hidden-along {around = outside} h (run-fails t d) g n = absurd (rule S h)
-  hidden-along {around = inside _ _ _} h (run-fails t d) g n = hidden-along (rule S h .2) d g n
+  hidden-along {around = inside _ _ _} h (run-fails t d) g n = hidden-along (rule S h .1 .placed) d g n
   hidden-along {around = outside} h (run-update t) g n = absurd (rule S h)
   hidden-along {around = inside _ _ _} h (run-update {ms = ms} t) g n = update-shows ms (rule S h .0) g n
   hidden-along {around = outside} h (run-update-rolls t) g n = absurd (rule S h)
@@ -139,8 +140,8 @@ module _ (S : Setting) where
   rows-stay h (run-stop t) g v = near-refl g
   rows-stay h (run-more t d e) g v = let n = rows-stay (rule S h) d g v in near-trans n (rows-stay h e (n .good2) v)
   rows-stay h (run-more-rolls t d) g v = rows-stay (rule S h) d g v
-  rows-stay h (run-holds t d) g v = rows-stay (rule S h .1) d g v
-  rows-stay h (run-fails t d) g v = rows-stay (rule S h .2) d g v
+  rows-stay h (run-holds t d) g v = rows-stay (rule S h .0 .placed) d g v
+  rows-stay h (run-fails t d) g v = rows-stay (rule S h .1 .placed) d g v
   rows-stay h (run-update {ms = ms} t) g v = hidden-update ms (rule S h .0) g v
   rows-stay h (run-update-rolls {ms = ms} t) g v = hidden-update ms (rule S h .0) g v
   rows-stay h (run-transaction d) g v = absurd (rule S h)

@@ -10,7 +10,7 @@ use Rattle.model.specs.Policy.{principals, roles}
 use Rattle.model.specs.Syntax.{Stmt}
 use Rattle.model.specs.Program.{got, blockOf, readProgram}
 use Rattle.model.specs.Flow.{Part, part, bodies, bodyAt, programVerdict, transactionPart}
-use Rattle.model.proofs.Fits.{Each}
+use Rattle.model.specs.Fits.{Each}
 
 -- a part of the bytes ends at a position or before
 abbrev pub PartWithin : ℕ → Part → Type 0

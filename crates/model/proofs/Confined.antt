@@ -2,17 +2,18 @@
 use Prim.Native.Nat.{ℕ, _<_}
 use native.Mathlib.Omega.{arith}
 use mathlib.Core.Path.{_≡_, refl, sym, _∙_}
-use mathlib.Core.List.{List, [], List·Memᴰ, List·Memᴰ·not-nil, Memᴰ·append-left, Memᴰ·append-right}
+use mathlib.Core.List.{List, [], List·Memᴰ, Memᴰ·append-left, Memᴰ·append-right}
 use mathlib.Core.Bool.{true, false}
+use Rattle.model.specs.Limits.{variableLimit}
 use Rattle.model.specs.Sets.{has}
 use Rattle.model.specs.Policy.{Side}
 use Rattle.model.specs.Syntax.{of, Atom, Query, Expr, Stmt, assign, while, transaction}
 use Rattle.model.specs.Flow.{underExpr, underQuery, updateJoin, assigned, mutated, Around, outside, inside}
 use Rattle.model.specs.Value.{evaluate}
 use Rattle.model.specs.Run.{Update}
-use Rattle.model.proofs.Along.{listedOf, Stands, rule, ListedHold, Known, all-hold, known-stays}
-use Rattle.model.proofs.Fits.{Each, each-cons}
-use Rattle.model.proofs.FlowParts.{UpdatesOn}
+use Rattle.model.proofs.Along.{listedOf, Stands, rule, Known, nothing-known, all-hold, known-stays}
+use Rattle.model.specs.Fits.{Each}
+use Rattle.model.proofs.FlowParts.{ListedHold, UpdatesOn}
 use Rattle.model.proofs.Openness.{Setting, isOpen, Good, Near, near-sym, near-trans, open-fixed, open-same, Hidden, hidden-near, hidden-in, hides}
 use Rattle.model.proofs.Runs.{End, ends, rolls, Runs, run-skip, run-assign, run-empty, run-block, run-block-rolls, run-then, run-else, run-stop, run-more, run-more-rolls, run-holds, run-fails, run-update, run-update-rolls, run-transaction, run-again}
 use Rattle.model.proofs.States.{labelOf, Room, Alike, alike-refl, alike-trans, assign-hidden}
@@ -21,7 +22,7 @@ use Rattle.model.proofs.Updates.{RowsHidden, hidden-update}
 -- a transaction is hidden under a policy when the rows of all roles that it mutates are, and all variables that it assigns
 pub record AllHidden (S : Setting) (xs rs : ℕ) (s : List ℕ) : Type 0 where
   pub rows-hidden : RowsHidden S rs
-  pub variables-hidden : (x : ℕ) → x < 64 → has xs x ≡ true → isOpen S s (labelOf S x) ≡ false
+  pub variables-hidden : (x : ℕ) → x < variableLimit → has xs x ≡ true → isOpen S s (labelOf S x) ≡ false
 
 abbrev pub HiddenAround : Setting → Around → List ℕ → Type 0
 HiddenAround S outside s = ⊥
@@ -68,9 +69,6 @@ calm-after : {S : Setting} {s m t n : List ℕ} (around : Around) (o : End) → 
 calm-after around (ends u k) a c = alike-trans a c
 calm-after around (rolls u) a c = (near-trans (a .near) (c .0), hidden-around-near around (near-sym (a .near)) (c .1))
 
-pub nothing-known : (listed : List Query) (s : List ℕ) → ListedHold listed [] s
-nothing-known listed s q i = absurd (List·Memᴰ·not-nil i)
-
 module _ (S : Setting) where
   -- an update whose join has a hidden atom stands in a hidden transaction
   pub update-hidden : {listed known : List Query} {xs rs : ℕ} {context : Side → List Atom} {s : List ℕ}
@@ -111,9 +109,9 @@ module _ (S : Setting) where
       calm-after around o a (confined h f (a .near .good2) (a .room2) (known-stays S (rule S h) d w) (unseen-near (a .near) y))
   confined {context} h (run-more-rolls {e = e} t d) g r w y = confined (rule S h) d g r w (unseen-in (grows-expr (S .program) e context (S .side)) y)
   confined {around = outside} h (run-holds t d) g r w y = absurd (rule S h)
-  confined {around = inside _ _ _} {context} h (run-holds {q = q} t d) g r w y = confined (rule S h .1) d g r (each-cons (rule S h .0, t) w) (unseen-in (grows-query q context (S .side)) y)
+  confined {around = inside _ _ _} {context} {s} h (run-holds {q = q} t d) g r w y = confined (rule S h .0 .placed) d g r (rule S h .0 .knows-true s t w) (unseen-in (grows-query q context (S .side)) y)
   confined {around = outside} h (run-fails t d) g r w y = absurd (rule S h)
-  confined {around = inside _ _ _} {context} h (run-fails {q = q} t d) g r w y = confined (rule S h .2) d g r w (unseen-in (grows-query q context (S .side)) y)
+  confined {around = inside _ _ _} {context} {s} h (run-fails {q = q} t d) g r w y = confined (rule S h .1 .placed) d g r (rule S h .1 .knows-true s t w) (unseen-in (grows-query q context (S .side)) y)
   confined {around = outside} h (run-update t) g r w y = absurd (rule S h)
   confined {around = inside _ _ _} h (run-update {ms = ms} t) g r w y =
       let v = update-unseen (rule S h .1) g w y in
@@ -122,10 +120,10 @@ module _ (S : Setting) where
   confined {around = inside _ _ _} h (run-update-rolls {ms = ms} t) g r w y =
       let v = update-unseen (rule S h .1) g w y in
       (hidden-update ms (rule S h .0) g (v .rows-hidden), v)
-  confined {around = outside} {s} h (run-transaction {qs = qs} {a = a} d) g r w y = confined (rule S h) d g r (nothing-known qs s) (unseen-into (inside qs (assigned a) (mutated a)) y)
+  confined {around = outside} {s} h (run-transaction {qs = qs} {a = a} d) g r w y = confined (rule S h) d g r (nothing-known qs s w) (unseen-into (inside qs (assigned a) (mutated a)) y)
   confined {around = inside _ _ _} h (run-transaction d) g r w y = absurd (rule S h)
   confined {around = outside} {s} h (run-again {qs = qs} {a = a} d e) g r w y =
-      let c = confined (rule S h) d g r (nothing-known qs s) (unseen-into (inside qs (assigned a) (mutated a)) y) in
+      let c = confined (rule S h) d g r (nothing-known qs s w) (unseen-into (inside qs (assigned a) (mutated a)) y) in
       alike-trans (record { near = c .0; room1 = r; room2 = r; values = λ x l o. refl }) (confined h e (c .0 .good2) r w (unseen-near (c .0) y))
   confined {around = inside _ _ _} h (run-again d e) g r w y = absurd (rule S h)
 
@@ -140,11 +138,11 @@ module _ (S : Setting) where
   confined-loop h (run-more-rolls t d) g r w y = confined h d g r w y
 
   -- a whole transaction that is hidden, with its restarts
-  pub confined-transaction : {l qs : List Query} {at start end : ℕ} {context : Side → List Atom} {x : Stmt} {s m s₁ m₁ : List ℕ} {us : List Update}
-      → Stands S (inside qs (assigned x) (mutated x)) [] context x → Runs l (transaction at start end qs x) s m (ends s₁ m₁) us → Good S s → Room S m
+  pub confined-transaction : {l qs known : List Query} {at start end : ℕ} {context : Side → List Atom} {x : Stmt} {s m s₁ m₁ : List ℕ} {us : List Update}
+      → Stands S (inside qs (assigned x) (mutated x)) known context x → known ≡ [] → Runs l (transaction at start end qs x) s m (ends s₁ m₁) us → Good S s → Room S m
       → AllHidden S (assigned x) (mutated x) s → Alike S s m s₁ m₁
-  confined-transaction {qs} {s} h (run-transaction d) g r v = confined h d g r (nothing-known qs s) (by-transaction v)
-  confined-transaction {qs} {x} {s} h (run-again d e) g r v =
-      let c = confined h d g r (nothing-known qs s) (by-transaction v) in
+  confined-transaction {qs} {s} h w (run-transaction d) g r v = confined h d g r (nothing-known qs s w) (by-transaction v)
+  confined-transaction {qs} {x} {s} h w (run-again d e) g r v =
+      let c = confined h d g r (nothing-known qs s w) (by-transaction v) in
       alike-trans (record { near = c .0; room1 = r; room2 = r; values = λ y l o. refl })
-      (confined-transaction h e (c .0 .good2) r (hidden-around-near (inside qs (assigned x) (mutated x)) (c .0) v))
+      (confined-transaction h w e (c .0 .good2) r (hidden-around-near (inside qs (assigned x) (mutated x)) (c .0) v))

@@ -1,24 +1,27 @@
 -- Demand 3: a run that returns 0 has run the body of an accepted program to its end; two such ran one body from alike states, and in step they end alike, as around a whole program there is no transaction that could be hidden.
-use Prim.Native.Nat.{ℕ, _<_}
+use Prim.Native.Nat.{ℕ, _^_, _<_}
 use native.Mathlib.Omega.{arith}
 use mathlib.Core.Path.{_≡_, refl, sym, _∙_}
 use mathlib.Core.Logic.{⊎-elim}
 use mathlib.Core.List.{List, []}
 use mathlib.Core.Bool.{true}
 use Rattle.model.specs.Number.{accepted}
-use Rattle.model.specs.Policy.{Side, principals, roles, SameFixed}
+use Rattle.model.specs.Policy.{Side, reading, trust, principals, roles, viewers, trusters, watchers, SameFixed}
 use Rattle.model.specs.Syntax.{of}
 use Rattle.model.specs.Program.{got, variables, readProgram}
 use Rattle.model.specs.Order.{fixedSet}
+use Rattle.model.specs.Flow.{label}
 use Rattle.model.specs.Atoms.{atomSet}
 use Rattle.model.specs.Value.{valueAt}
-use Rattle.model.specs.Run.{Outcome}
-use Rattle.model.specs.Claim.{openRow, openVariable, NoGain, OpenRowsAgree, OpenValuesAgree, SameOpenEnds, Demand3}
+use Rattle.model.specs.Run.{Update, Outcome}
+use Rattle.model.specs.Claim.{openRow, openVariable, NoGain, OpenRowsAgree, OpenValuesAgree, SameOpenEnds, Demand3, rowOpenTo, variableOpenTo, NeverPutIn, Observer}
 use Rattle.model.proofs.FlowParts.{AcceptedProgram}
 use Rattle.model.proofs.Openness.{Setting, isOpen, Near, good-base, open-fixed, open-same}
 use Rattle.model.proofs.InStep.{in-step}
 use Rattle.model.proofs.RunLaws.{Begins, Ran, refuses, finishes, spends, ran}
 use Rattle.model.proofs.Runs.{ends, Runs, execute-runs}
+use Rattle.model.proofs.Sees.{sees-one}
+use Rattle.model.proofs.Sets.{power-is}
 use Rattle.model.proofs.States.{labelOf, Alike}
 
 -- a run that returned 0 ran the body of an accepted program to its end
@@ -62,3 +65,30 @@ both-finished {side} {group} {p} {a} {b} {m} {n} {one} {two} same rows values f 
 
 pub demand-3 : Demand3
 demand-3 side group p a b m n f g same rows values ra rb na nb = both-finished same rows values na (finished (ran a p m f) ra) (finished (ran b p n g) rb)
+
+-- one observer is the group of that principal: what is open to them, and what puts them into a meaning, is the group's
+row-open : (side : Side) (o : ℕ) (s : List ℕ) (r : ℕ) → openRow side (2 ^ o) s r ≡ rowOpenTo side o s r
+unfolding openRow rowOpenTo watchers
+row-open reading o s r = sees-one o (viewers s r)
+row-open trust o s r = sees-one o (trusters s r)
+
+variable-open : (side : Side) (o : ℕ) (p s : List ℕ) (x : ℕ) → openVariable side (2 ^ o) p s x ≡ variableOpenTo side o p s x
+unfolding openVariable variableOpenTo
+variable-open side o p s x = sees-one o (atomSet s (label p side x))
+
+no-gain : (o : ℕ) (us : List Update) → NeverPutIn o us → NoGain (2 ^ o) us
+no-gain o us h u i k =
+    let e : k .principal ≡ o = power-is o (k .principal) (k .in-group) in
+    h u i (k .role) record { not-before = rw e at (k .not-before); now-in = rw e at (k .now-in) }
+
+pub observer : Observer
+observer side o p a b m n f g same rows values ra rb na nb =
+    let k = demand-3 side (2 ^ o) p a b m n f g same
+    (λ r l h. rows r l (sym (row-open side o a r) ∙ h))
+    (λ x l h. values x l (sym (variable-open side o p a x) ∙ h))
+    ra rb (no-gain o _ na) (no-gain o _ nb) in
+    record {
+      rows = λ r l h. k .rows r l (row-open side o _ r ∙ h);
+      variables-open = λ x l. sym (variable-open side o p _ x) ∙ k .variables-open x l ∙ variable-open side o p _ x;
+      values = λ x l h. k .values x l (variable-open side o p _ x ∙ h);
+    }

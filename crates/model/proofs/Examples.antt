@@ -1,10 +1,10 @@
--- The worked examples of document 01 that are marked *, in one table: they hold of the definitions by computation.
+-- The worked examples of document 01 that are marked *, in one table, and one more that ties a variable's two label bytes to the sides: they hold of the definitions by computation.
 use Prim.Native.Nat.{ℕ, _-_}
 use mathlib.Core.Path.{_≡_, refl}
 use mathlib.Core.List.{List, [], _∷_, _++_}
 use Rattle.model.specs.Number.{accepted, flowReading, flowTrust, fuelSpent, fine, refused, firstBelow}
 use Rattle.model.specs.Bytes.{word, put, startsWith}
-use Rattle.model.specs.Policy.{policyNumber, headNumber, rowNumber, principalNumber, ownerNumber, pairNumber, grantsNumber, takesNumber, takenNumber, viewers, trusters, members, takes, watchers, mayTake, mayHold}
+use Rattle.model.specs.Policy.{reading, trust, hasMark, rowBytes, rowAt, policyBytes, policyNumber, headNumber, rowNumber, principalNumber, ownerNumber, pairNumber, grantsNumber, takesNumber, takenNumber, viewers, trusters, members, takes, watchers, mayTake, mayHold}
 use Rattle.model.specs.Meaning.{gather, grown, steps, rounds, column, meanings, meaning, answer, meaningOf}
 use Rattle.model.specs.Mutation.{allowed, putMembers, putTakes, mutate}
 use Rattle.model.specs.Program.{andThen, readByte, readBelow, readMark, readMany, atomAt, readAtom, readLabel, readQuery, mutationAt, readMutation, binaryAt, exprAt, readExpr, blockOf, assignAt, blockAt, ifAt, whileAt, queryAt, updateAt, transactionAt, stmtAt, readStmt, readBody, readProgram}
@@ -52,6 +52,10 @@ leakProgram = rxp ++ 2 ∷ 0xff ∷ 0xff ∷ 0 ∷ 0 ∷ 1 ∷ 0 ∷ 1 ∷ 1 ∷
 abbrev trustProgram : List ℕ
 trustProgram = rxp ++ 2 ∷ 0xff ∷ 0xff ∷ 0xff ∷ 0 ∷ 1 ∷ 0 ∷ 1 ∷ 1 ∷ []
 
+-- only the reading label of v1 is a role
+abbrev readersProgram : List ℕ
+readersProgram = rxp ++ 2 ∷ 0xff ∷ 0xff ∷ 0 ∷ 0xff ∷ 1 ∷ 0 ∷ 1 ∷ 1 ∷ []
+
 -- a transaction that lists a pair and queries it: if it holds, role 0 no longer takes role 1 and v0 := 1; else skip
 abbrev pub changeProgram : ℕ → ℕ → List ℕ
 changeProgram a b =
@@ -82,6 +86,10 @@ pub record WorkedExamples : Type 0 where
   -- v0 := v1 is 17; with only the trust label a role, 18
   pub reading-refused : programVerdict policyE leakProgram ≡ refused flowReading 10
   pub trust-refused : programVerdict policyE trustProgram ≡ refused flowTrust 10
+  -- with only the reading label a role, 17: those in the first label's set, {0}, may read v1, those in the second's trust it
+  pub readers-refused : programVerdict policyE readersProgram ≡ refused flowReading 10
+  pub readers : atomSet policyE (label readersProgram reading 1) ≡ 1
+  pub those-who-trust : atomSet policyE (label readersProgram trust 1) ≡ 3
   -- the programs of policy F are accepted
   pub change-accepted : programVerdict policyF (changeProgram 0 1) ≡ fine
   pub reversed-accepted : programVerdict policyF (changeProgram 1 0) ≡ fine
@@ -103,7 +111,7 @@ pub record WorkedExamples : Type 0 where
   pub sum-example : apply sum 2147483647 1 ≡ modulus - 2147483648
 
 pub worked-examples : WorkedExamples
-unfolding firstBelow word startsWith policyNumber headNumber rowNumber principalNumber ownerNumber pairNumber grantsNumber takesNumber takenNumber viewers trusters members takes watchers mayTake mayHold gather grown steps rounds column meanings meaning meaningOf allowed andThen readByte readBelow readMark readMany atomAt readAtom readLabel readQuery mutationAt readMutation binaryAt exprAt readExpr blockOf assignAt blockAt ifAt whileAt queryAt updateAt transactionAt stmtAt readStmt readBody readProgram fixedSet includes base atMost joinAtMost labelAtom label exprLabel atomLabel queryLabel listLabel assigned rolesOf mutated eachIn listedIn allAllowed mayAssign mayUpdate flow bodyVerdict programVerdict atomSet holds put putMembers putTakes mutate quotientOf apply valueAt setValue evaluate after charge Run.andThen mutateAll broken loop attempt execute finish runBody run
+unfolding firstBelow word startsWith hasMark rowBytes rowAt policyBytes policyNumber headNumber rowNumber principalNumber ownerNumber pairNumber grantsNumber takesNumber takenNumber viewers trusters members takes watchers mayTake mayHold gather grown steps rounds column meanings meaning meaningOf allowed andThen readByte readBelow readMark readMany atomAt readAtom readLabel readQuery mutationAt readMutation binaryAt exprAt readExpr blockOf assignAt blockAt ifAt whileAt queryAt updateAt transactionAt stmtAt readStmt readBody readProgram fixedSet includes base atMost joinAtMost labelAtom label exprLabel atomLabel queryLabel listLabel assigned rolesOf mutated eachIn listedIn allAllowed mayAssign mayUpdate flow bodyVerdict programVerdict atomSet holds put putMembers putTakes mutate quotientOf apply valueAt setValue evaluate after charge Run.andThen mutateAll broken loop attempt execute finish runBody run
 worked-examples =
     record {
       policy-E = refl;
@@ -111,6 +119,9 @@ worked-examples =
       first-accepted = refl;
       reading-refused = refl;
       trust-refused = refl;
+      readers-refused = refl;
+      readers = refl;
+      those-who-trust = refl;
       change-accepted = refl;
       reversed-accepted = refl;
       query-refused = refl;

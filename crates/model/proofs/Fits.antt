@@ -1,5 +1,5 @@
--- Where roles are below 64 an atom is what its byte reads as, so a query whose two bytes stand in a list is itself in that list.
-use Prim.Native.Nat.{ℕ, _+_, _<_, _≤_}
+-- Where roles are within their limit an atom is what its byte reads as, so a query whose two bytes stand in a list is itself in that list.
+use Prim.Native.Nat.{ℕ, _+_, _≤_}
 use native.Mathlib.Nat.{add-sub-cancel-left}
 use native.Mathlib.Omega.{arith}
 use mathlib.Core.Path.{_≡_, refl, sym, subst}
@@ -8,57 +8,18 @@ use mathlib.Core.List.{List, [], _∷_, List·Memᴰ, List·Memᴰ·head, List·
 use mathlib.Core.Bool.{true, false≢true}
 use lib.Dec.{eqb}
 use borrow.Author.Tests.{eqb-true, lt-ltb, le-ltb}
+use Rattle.model.specs.Limits.{roleLimit}
 use Rattle.model.specs.Policy.{reading, trust}
-use Rattle.model.specs.Mutation.{Kind, addMember, deleteMember, addTaken, deleteTaken, Mutation}
-use Rattle.model.specs.Syntax.{of, everyone, Atom, role, fixed, Query, atomByte, sameQuery, Expr, constant, variable, binary, Stmt, skip, assign, empty, block, if, while, query, update, transaction}
+use Rattle.model.specs.Syntax.{of, everyone, Atom, role, fixed, Query, atomByte, sameQuery}
 use Rattle.model.specs.Program.{got, atomAt}
+use Rattle.model.specs.Fits.{Each, AtomFits, QueryFits}
 use Rattle.model.specs.Flow.{listedIn}
 use Rattle.model.proofs.Truth.{either, both}
-
--- every element of a list
-abbrev pub Each : {A : Type 0} → (A → Type 0) → List A → Type 0
-Each {A} Q xs = (x : A) → List·Memᴰ x xs → Q x
 
 pub each-cons : {A : Type 0} {Q : A → Type 0} {x : A} {xs : List A} → Q x → Each Q xs → Each Q (x ∷ xs)
 each-cons {Q} {x} h f y m = ⊎-elim (λ e. subst Q (sym e) h) (f y) (List·Memᴰ·cases-cons m)
 
--- atoms, queries and mutations that name only the R roles and P principals that there are
-abbrev pub AtomFits : ℕ → Atom → Type 0
-AtomFits R (role j) = j < R
-AtomFits R (fixed (of side j)) = j < R
-AtomFits R (fixed everyone) = Unit {0}
-
-abbrev pub QueryFits : ℕ → Query → Type 0
-QueryFits R q = AtomFits R (q .first) × AtomFits R (q .second)
-
-abbrev pub operandLimit : ℕ → ℕ → Kind → ℕ
-operandLimit P R addMember = P
-operandLimit P R deleteMember = P
-operandLimit P R addTaken = R
-operandLimit P R deleteTaken = R
-
-abbrev pub MutationFits : ℕ → ℕ → Mutation → Type 0
-MutationFits P R m = (m .role < R) × (m .operand < operandLimit P R (m .kind))
-
--- expressions that name only the vars variables that there are
-abbrev pub ExprFits : ℕ → Expr → Type 0
-ExprFits vars (constant n) = Unit {0}
-ExprFits vars (variable x) = x < vars
-ExprFits vars (binary op a b) = ExprFits vars a × ExprFits vars b
-
--- a statement of which all this is so
-abbrev pub Fits : ℕ → ℕ → ℕ → Stmt → Type 0
-Fits P R vars skip = Unit {0}
-Fits P R vars (assign at x e) = (x < vars) × ExprFits vars e
-Fits P R vars empty = Unit {0}
-Fits P R vars (block a b) = Fits P R vars a × Fits P R vars b
-Fits P R vars (if e a b) = ExprFits vars e × Fits P R vars a × Fits P R vars b
-Fits P R vars (while e a) = ExprFits vars e × Fits P R vars a
-Fits P R vars (query at q a b) = QueryFits R q × Fits P R vars a × Fits P R vars b
-Fits P R vars (update at ms) = Each (MutationFits P R) ms
-Fits P R vars (transaction at start end qs a) = Each (QueryFits R) qs × Fits P R vars a
-
-module _ (R : ℕ) (few : R ≤ 64) where
+module _ (R : ℕ) (few : R ≤ roleLimit) where
   atom-read : (a : Atom) → AtomFits R a → atomAt R 0 (atomByte a) 0 ≡ got a 0
   unfolding atomAt
   atom-read (role j) h = rw (lt-ltb j 0x40 (omega arith), lt-ltb j R h)

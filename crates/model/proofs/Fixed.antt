@@ -2,7 +2,8 @@
 use Prim.Native.Nat.{ℕ, _<_}
 use mathlib.Core.Path.{_≡_, sym, _∙_}
 use mathlib.Core.List.{List}
-use Rattle.model.specs.Policy.{roles, mayTake, mayHold, SameFixed, Agree}
+use Rattle.model.specs.Policy.{roles, Side, reading, trust, watchers, mayTake, mayHold, SameFixed, Agree}
+use Rattle.model.proofs.Taking.{may-take-same}
 
 pub fixed-refl : (a : List ℕ) → SameFixed a a
 fixed-refl a = search
@@ -26,10 +27,19 @@ agree-sym e = search sym
 pub agree-trans : {a b c : List ℕ} {i : ℕ} → Agree a b i → Agree b c i → Agree a c i
 agree-trans e f = search _∙_
 
+-- watchers are of the fixed part
+pub watchers-fixed : {a b : List ℕ} → SameFixed a b → (side : Side) (i : ℕ) → i < roles a → watchers side a i ≡ watchers side b i
+unfolding watchers
+watchers-fixed f reading i h = f .same-viewers i h
+watchers-fixed f trust i h = f .same-trusters i h
+
 pub may-take-fixed : {a b : List ℕ} → SameFixed a b → (i j : ℕ) → i < roles a → j < roles a → mayTake a i j ≡ mayTake b i j
-unfolding mayTake
-may-take-fixed f i j h k = rw (f .same-viewers i h, f .same-viewers j k, f .same-trusters i h, f .same-trusters j k)
+may-take-fixed {a} {b} f i j h k = may-take-same a b i j (λ side. watchers-fixed f side i h) (λ side. watchers-fixed f side j k)
+
+-- who watches decides who may be a member
+pub may-hold-same : (a b : List ℕ) (i p : ℕ) → ((side : Side) → watchers side a i ≡ watchers side b i) → mayHold a i p ≡ mayHold b i p
+unfolding watchers mayHold
+may-hold-same a b i p e = rw (e reading, e trust)
 
 pub may-hold-fixed : {a b : List ℕ} → SameFixed a b → (i p : ℕ) → i < roles a → mayHold a i p ≡ mayHold b i p
-unfolding mayHold
-may-hold-fixed f i p h = rw (f .same-viewers i h, f .same-trusters i h)
+may-hold-fixed {a} {b} f i p h = may-hold-same a b i p (λ side. watchers-fixed f side i h)

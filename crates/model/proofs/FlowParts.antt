@@ -3,22 +3,25 @@ use Prim.Native.Nat.{ℕ, zero, suc, _<_, _≤_}
 use native.Mathlib.Omega.{arith}
 use mathlib.Core.Path.{_≡_, refl, sym, _∙_}
 use mathlib.Core.Logic.{⊎-elim}
-use mathlib.Core.List.{List, [], _∷_, List·Memᴰ, List·Memᴰ·head, List·Memᴰ·tail, List·Memᴰ·not-nil}
+use mathlib.Core.List.{List, [], _∷_, List·Memᴰ, List·Memᴰ·head, List·Memᴰ·tail, List·Memᴰ·not-nil, Memᴰ·append-left, Memᴰ·append-right}
 use mathlib.Core.Bool.{Bool, true, false}
 use lib.Dec.{eqb}
 use lib.Bits.{bitOr}
 use borrow.Author.Tests.{eqb-true}
+use Rattle.model.specs.Limits.{roleLimit, variableLimit}
 use Rattle.model.specs.Number.{accepted, Verdict, fine, refused, require, orElse}
 use Rattle.model.specs.Sets.{has}
 use Rattle.model.specs.Policy.{principals, roles, Side, reading, trust, Accepted, policyNumber, SameFixed}
-use Rattle.model.specs.Mutation.{Kind, addMember, deleteMember, addTaken, deleteTaken, operandBelow, mutate, Mutation}
+use Rattle.model.specs.Mutation.{Kind, addMember, deleteMember, addTaken, deleteTaken, operandBelow, allowed, mutate, Mutation}
 use Rattle.model.specs.Syntax.{of, Atom, fixed, Query, Expr, Stmt, skip, assign, empty, block, if, while, query, update, transaction}
-use Rattle.model.specs.Program.{Read, got, bad, variableLimit, variables, readProgram}
+use Rattle.model.specs.Program.{Read, got, bad, variables, readProgram}
 use Rattle.model.specs.Order.{joinAtMost}
-use Rattle.model.specs.Flow.{label, exprLabel, assigned, rolesOf, mutated, Around, outside, inside, eachIn, listedIn, mayMutate, allAllowed, bothSides, thenKnown, elseKnown, underExpr, underQuery, assignJoin, updateJoin, mayAssign, mayUpdate, flow, bodyVerdict, programVerdict}
+use Rattle.model.specs.Flow.{label, exprLabel, assigned, rolesOf, mutated, Around, outside, inside, eachIn, listedIn, allAllowed, bothSides, underExpr, underQuery, updateJoin, mayAssign, mayUpdate, flow, bodyVerdict, programVerdict}
+use Rattle.model.specs.Atoms.{holds}
 use Rattle.model.proofs.Accepted.{accepted-facts}
 use Rattle.model.proofs.Below.{last-or}
-use Rattle.model.proofs.Fits.{Each, each-cons, QueryFits, operandLimit, MutationFits, Fits, listed-member}
+use Rattle.model.specs.Fits.{Each, QueryFits, operandLimit, MutationFits, Fits}
+use Rattle.model.proofs.Fits.{each-cons, listed-member}
 use Rattle.model.proofs.Fixed.{fixed-trans}
 use Rattle.model.proofs.Mutation.{mutate-fixed, mutate-accepted, allowed-fixed}
 use Rattle.model.proofs.Order.{JoinAtMost, join-derivable}
@@ -63,6 +66,10 @@ abbrev pub Surrounded : ℕ → Around → Stmt → Type 0
 Surrounded R outside x = Unit {0}
 Surrounded R (inside listed xs rs) x = Inside R listed xs rs x
 
+-- known queries are listed, and hold now
+abbrev pub ListedHold : List Query → List Query → List ℕ → Type 0
+ListedHold listed known s = Each (λ q. List·Memᴰ q listed × (holds s q ≡ true)) known
+
 -- a statement that is accepted where it stands
 pub record Placed (s p : List ℕ) (around : Around) (known : List Query) (context : Side → List Atom) (x : Stmt) : Type 0 where
   pub fits : Fits (principals s) (roles s) (variables p) x
@@ -93,7 +100,7 @@ assign-writes R (inside listed xs rs) at x e h = h .assigned-in x (has-with-same
 pub record Mutates (s : List ℕ) (rs : ℕ) (m : Mutation) : Type 0 where
   pub role-below : m .role < roles s
   pub operand-below : m .operand < operandBelow s (m .kind)
-  pub is-allowed : mayMutate s m ≡ true
+  pub is-allowed : allowed s (m .kind) (m .role) (m .operand) ≡ true
   pub named : has rs (m .role) ≡ true
 
 operand-fixed : {s a : List ℕ} → SameFixed s a → (k : Kind) → operandBelow s k ≡ operandBelow a k
@@ -129,7 +136,7 @@ mutates : (s : List ℕ) (rs : ℕ) (ms : List Mutation) → Each (MutationFits 
 unfolding rolesOf allAllowed
 mutates s rs [] f g h = λ m i. absurd (List·Memᴰ·not-nil i)
 mutates s rs (k ∷ ms) f g h =
-    let (a, later) = both (mayMutate s k) (allAllowed s ms) h in
+    let (a, later) = both _ _ h in
     let (r, o) = f k (List·Memᴰ·head refl) in
     let this : Mutates s rs k = record {
       role-below = r;
@@ -142,14 +149,21 @@ mutates s rs (k ∷ ms) f g h =
 module _ (s p : List ℕ) where
   -- an assignment on a side: context and expression label are at most the variable's label
   pub record AssignsOn (known : List Query) (context : Side → List Atom) (x : ℕ) (e : Expr) (side : Side) : Type 0 where
-    pub context-below : JoinAtMost s known (assignJoin context side) (label p side x)
+    pub context-below : JoinAtMost s known (context side) (label p side x)
     pub value-below : JoinAtMost s known (exprLabel p side e) (label p side x)
 
   -- an update on a side: context and listed queries' labels are at most the label of every variable that the transaction assigns, and at most the
   -- watchers of every role that it mutates
   pub record UpdatesOn (known : List Query) (context : Side → List Atom) (listed : List Query) (xs rs : ℕ) (side : Side) : Type 0 where
-    pub variables-above : (x : ℕ) → x < 64 → has xs x ≡ true → JoinAtMost s known (updateJoin context listed side) (label p side x)
-    pub roles-above : (r : ℕ) → r < 64 → has rs r ≡ true → JoinAtMost s known (updateJoin context listed side) (fixed (of side r))
+    pub variables-above : (x : ℕ) → x < variableLimit → has xs x ≡ true → JoinAtMost s known (updateJoin context listed side) (label p side x)
+    pub roles-above : (r : ℕ) → r < roleLimit → has rs r ≡ true → JoinAtMost s known (updateJoin context listed side) (fixed (of side r))
+
+  -- the branch of a query to which an answer leads: accepted where it stands, and what it knows is listed and holds, under a
+  -- policy where what is known around the query does and the query has that answer
+  pub record Branch (listed : List Query) (xs rs : ℕ) (known : List Query) (context : Side → List Atom) (q : Query) (answer : Bool) (x : Stmt) : Type 0 where
+    pub knows : List Query
+    pub placed : Placed s p (inside listed xs rs) knows (underQuery q context) x
+    pub knows-true : (t : List ℕ) → holds t q ≡ answer → ListedHold listed known t → ListedHold listed knows t
 
   -- what acceptance gives, by the statement's rule
   abbrev pub Parts : Around → List Query → (Side → List Atom) → Stmt → Type 0
@@ -161,30 +175,31 @@ module _ (s p : List ℕ) where
   Parts around known context (while e a) = Placed s p around known (underExpr p e context) a
   Parts outside known context (query at q a b) = ⊥
   Parts (inside listed xs rs) known context (query at q a b) =
-      List·Memᴰ q listed
-      × Placed s p (inside listed xs rs) (thenKnown q known) (underQuery q context) a
-      × Placed s p (inside listed xs rs) (elseKnown q known) (underQuery q context) b
+      Branch listed xs rs known context q true a × Branch listed xs rs known context q false b
   Parts outside known context (update at ms) = ⊥
   Parts (inside listed xs rs) known context (update at ms) = Each (Mutates s rs) ms × ((side : Side) → UpdatesOn known context listed xs rs side)
-  Parts outside known context (transaction at start end qs a) = Placed s p (inside qs (assigned a) (mutated a)) [] context a
+  Parts outside known context (transaction at start end qs a) = Placed s p (inside qs (assigned a) (mutated a)) known context a
   Parts (inside listed xs rs) known context (transaction at start end qs a) = ⊥
 
   may-assign : (known : List Query) (context : Side → List Atom) (x : ℕ) (e : Expr) (side : Side) → mayAssign s p known context x e side ≡ true
       → AssignsOn known context x e side
   unfolding mayAssign
   may-assign known context x e side h =
-      let (c, v) = both (joinAtMost s known (assignJoin context side) (label p side x)) (joinAtMost s known (exprLabel p side e) (label p side x)) h in
-      record { context-below = join-derivable s known (assignJoin context side) (label p side x) c; value-below = join-derivable s known (exprLabel p side e) (label p side x) v }
+      let below = join-derivable s known _ (label p side x) h in
+      record {
+        context-below = λ a i. below a (search Memᴰ·append-right);
+        value-below = λ a i. below a (search Memᴰ·append-left);
+      }
 
   may-update : (known : List Query) (context : Side → List Atom) (listed : List Query) (xs rs : ℕ) (side : Side) → mayUpdate s p known context listed xs rs side ≡ true
       → UpdatesOn known context listed xs rs side
   unfolding mayUpdate
   may-update known context listed xs rs side h =
       let join = updateJoin context listed side in
-      let (v, m) = both (eachIn xs (λ x. joinAtMost s known join (label p side x)) 64) (eachIn rs (λ r. joinAtMost s known join (fixed (of side r))) 64) h in
+      let (v, m) = both (eachIn xs (λ x. joinAtMost s known join (label p side x)) variableLimit) (eachIn rs (λ r. joinAtMost s known join (fixed (of side r))) roleLimit) h in
       record {
-        variables-above = λ x l i. join-derivable s known join (label p side x) (each-in xs _ 64 v x l i);
-        roles-above = λ r l i. join-derivable s known join (fixed (of side r)) (each-in rs _ 64 m r l i);
+        variables-above = λ x l i. join-derivable s known join (label p side x) (each-in xs _ variableLimit v x l i);
+        roles-above = λ r l i. join-derivable s known join (fixed (of side r)) (each-in rs _ roleLimit m r l i);
       }
 
   -- the two parts of a block, an if or a query
@@ -198,6 +213,17 @@ module _ (s p : List ℕ) where
       let left = part-surrounded (roles s) around z a (rw e (has-or-l (assigned a) (assigned b))) (rw m (has-or-l (mutated a) (mutated b))) i in
       let right = part-surrounded (roles s) around z b (rw e (has-or-r (assigned a) (assigned b))) (rw m (has-or-r (mutated a) (mutated b))) i in
       (record { fits = f; surrounded = left; flows = v }, record { fits = g; surrounded = right; flows = w })
+
+  -- the query is listed, and known in the first branch only
+  query-branches : {listed : List Query} {xs rs : ℕ} {known : List Query} {context : Side → List Atom} {at : ℕ} {q : Query} {a b : Stmt}
+      → Accepted s → Placed s p (inside listed xs rs) known context (query at q a b)
+      → Branch listed xs rs known context q true a × Branch listed xs rs known context q false b
+  unfolding flow assigned mutated
+  query-branches {listed} {xs} {rs} {context} {at} {q} {a} {b} good h =
+      let (l, v) = require-fine (listedIn q listed) _ at _ (h .flows) in
+      let m = listed-member (roles s) (accepted-facts s good .roles-fit) q listed (h .fits .0) (h .surrounded .listed-fit) l in
+      let (x, y) = two-parts (inside listed xs rs) _ _ (underQuery q context) (query at q a b) a b refl refl (h .fits .1) (h .fits .2) (h .surrounded) v in
+      (record { knows = _; placed = x; knows-true = λ t c w. each-cons (m, c) w }, record { knows = _; placed = y; knows-true = λ t c w. w })
 
   pub parts : {around : Around} {known : List Query} {context : Side → List Atom} {x : Stmt} → Accepted s → Placed s p around known context x → Parts around known context x
   unfolding flow assigned mutated
@@ -215,15 +241,12 @@ module _ (s p : List ℕ) where
     flows = h .flows;
   }
   parts {around = outside} {x = query at q a b} good h = refused-not-fine _ at (h .flows)
-  parts {around = inside listed xs rs} {known} {context} {x = query at q a b} good h =
-      let (l, v) = require-fine (listedIn q listed) _ at _ (h .flows) in
-      let m = listed-member (roles s) (accepted-facts s good .roles-fit) q listed (h .fits .0) (h .surrounded .listed-fit) l in
-      let (x, y) = two-parts (inside listed xs rs) (thenKnown q known) (elseKnown q known) (underQuery q context) (query at q a b) a b refl refl (h .fits .1) (h .fits .2) (h .surrounded) v in
-      (m, x, y)
+  parts {around = inside listed xs rs} {x = query at q a b} good h = query-branches good h
   parts {around = outside} {x = update at ms} good h = refused-not-fine _ at (h .flows)
   parts {around = inside listed xs rs} {known} {context} {x = update at ms} good h =
       let (a, v) = require-fine (allAllowed s ms) _ at _ (h .flows) in
-      (mutates s rs ms (h .fits) (h .surrounded .mutated-in) a, λ side. may-update known context listed xs rs side (sides-fine (mayUpdate s p known context listed xs rs) at v side))
+      let checked = sides-fine (mayUpdate s p known context listed _ _) at v in
+      (mutates s rs ms (h .fits) (h .surrounded .mutated-in) a, λ side. may-update known context listed _ _ side (checked side))
   parts {around = outside} {x = transaction at start end qs a} good h = record {
     fits = h .fits .1;
     surrounded = record { listed-fit = h .fits .0; assigned-in = λ i k. k; mutated-in = λ i k. k };

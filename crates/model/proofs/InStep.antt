@@ -13,10 +13,10 @@ use Rattle.model.specs.Atoms.{holds}
 use Rattle.model.specs.Value.{evaluate, truth, setValue}
 use Rattle.model.specs.Run.{Update, mutateAll, broken}
 use Rattle.model.specs.Claim.{NoGain}
-use Rattle.model.proofs.Along.{listedOf, Stands, rule, ListedHold, Known, all-hold, no-gain-first, no-gain-later, alike-shown, known-stays, update-shows, hidden-along, rows-stay}
-use Rattle.model.proofs.Confined.{AllHidden, HiddenAround, hidden-around-near, by-context, Calm, nothing-known, update-hidden, confined, confined-loop, confined-transaction}
-use Rattle.model.proofs.Fits.{Each, each-cons, ExprFits}
-use Rattle.model.proofs.FlowParts.{Mutates, UpdatesOn}
+use Rattle.model.proofs.Along.{listedOf, Stands, rule, Known, nothing-known, all-hold, no-gain-first, no-gain-later, alike-shown, known-stays, update-shows, hidden-along, rows-stay}
+use Rattle.model.proofs.Confined.{AllHidden, HiddenAround, hidden-around-near, by-context, Calm, update-hidden, confined, confined-loop, confined-transaction}
+use Rattle.model.specs.Fits.{Each, ExprFits}
+use Rattle.model.proofs.FlowParts.{ListedHold, Mutates, UpdatesOn}
 use Rattle.model.proofs.Openness.{Setting, Good, Near, near-sym, Hidden, hidden-or-open, hidden-near, hidden-in, hides, query-same, broken-same}
 use Rattle.model.proofs.Runs.{End, ends, rolls, Runs, run-skip, run-assign, run-empty, run-block, run-block-rolls, run-then, run-else, run-stop, run-more, run-more-rolls, run-holds, run-fails, run-update, run-update-rolls, run-transaction, run-again}
 use Rattle.model.proofs.Sees.{clash}
@@ -98,13 +98,13 @@ module _ (S : Setting) where
   hidden-before {around = inside l xs rs} h d g y = hidden-around-near (inside l xs rs) (near-sym (rows-stay S h d g (y .rows-hidden))) y
 
   -- two runs of a transaction that is hidden
-  hidden-transactions : {qs : List Query} {at start end : ℕ} {context : Side → List Atom} {x : Stmt} {s m s₁ m₁ t n t₁ n₁ : List ℕ} {us vs : List Update}
-      → Stands S (inside qs (assigned x) (mutated x)) [] context x
+  hidden-transactions : {qs known : List Query} {at start end : ℕ} {context : Side → List Atom} {x : Stmt} {s m s₁ m₁ t n t₁ n₁ : List ℕ} {us vs : List Update}
+      → Stands S (inside qs (assigned x) (mutated x)) known context x → known ≡ []
       → Runs [] (transaction at start end qs x) s m (ends s₁ m₁) us → Runs [] (transaction at start end qs x) t n (ends t₁ n₁) vs
       → Alike S s m t n → AllHidden S (assigned x) (mutated x) s → Alike S s₁ m₁ t₁ n₁
-  hidden-transactions {qs} {x} h d e k y =
-      let a = confined-transaction S h d (k .near .good1) (k .room1) y in
-      let b = confined-transaction S h e (k .near .good2) (k .room2) (hidden-around-near (inside qs (assigned x) (mutated x)) (k .near) y) in
+  hidden-transactions {qs} {x} h w d e k y =
+      let a = confined-transaction S h w d (k .near .good1) (k .room1) y in
+      let b = confined-transaction S h w e (k .near .good2) (k .room2) (hidden-around-near (inside qs (assigned x) (mutated x)) (k .near) y) in
       alike-trans (alike-sym a) (alike-trans k b)
 
   -- that the first run does not gain is enough: in step the second changes open rows as the first does
@@ -145,12 +145,18 @@ module _ (S : Setting) where
   in-step h (run-more-rolls c d) (run-more-rolls c′ d′) w v k g = in-step (rule S h) d d′ w v k g
   in-step {around = outside} h (run-holds c d) d′ w v k g = absurd (rule S h)
   in-step {around = outside} h (run-fails c d) d′ w v k g = absurd (rule S h)
-  in-step {around = inside _ _ _} h (run-holds c d) (run-holds c′ d′) w v k g = in-step (rule S h .1) d d′ (each-cons (rule S h .0, c) w) (each-cons (rule S h .0, c′) v) k g
-  in-step {around = inside _ _ _} {context} h (run-holds {q = q} c d) (run-fails c′ d′) w v k g =
-      unseen-two (rule S h .1) d (each-cons (rule S h .0, c) w) (rule S h .2) d′ v k (query-hidden q context k (differ c c′))
-  in-step {around = inside _ _ _} {context} h (run-fails {q = q} c d) (run-holds c′ d′) w v k g =
-      unseen-two (rule S h .2) d w (rule S h .1) d′ (each-cons (rule S h .0, c′) v) k (query-hidden q context k (λ z. differ c′ c (sym z)))
-  in-step {around = inside _ _ _} h (run-fails c d) (run-fails c′ d′) w v k g = in-step (rule S h .2) d d′ w v k g
+  in-step {around = inside _ _ _} {s} {t} h (run-holds c d) (run-holds c′ d′) w v k g =
+      let a = rule S h .0 in
+      in-step (a .placed) d d′ (a .knows-true s c w) (a .knows-true t c′ v) k g
+  in-step {around = inside _ _ _} {context} {s} {t} h (run-holds {q = q} c d) (run-fails c′ d′) w v k g =
+      let (a, b) = rule S h in
+      unseen-two (a .placed) d (a .knows-true s c w) (b .placed) d′ (b .knows-true t c′ v) k (query-hidden q context k (differ c c′))
+  in-step {around = inside _ _ _} {context} {s} {t} h (run-fails {q = q} c d) (run-holds c′ d′) w v k g =
+      let (a, b) = rule S h in
+      unseen-two (b .placed) d (b .knows-true s c w) (a .placed) d′ (a .knows-true t c′ v) k (query-hidden q context k (λ z. differ c′ c (sym z)))
+  in-step {around = inside _ _ _} {s} {t} h (run-fails c d) (run-fails c′ d′) w v k g =
+      let b = rule S h .1 in
+      in-step (b .placed) d d′ (b .knows-true s c w) (b .knows-true t c′ v) k g
   in-step {around = outside} h (run-update c) d′ w v k g = absurd (rule S h)
   in-step {around = outside} h (run-update-rolls c) d′ w v k g = absurd (rule S h)
   in-step {around = inside _ _ _} h (run-update {ms = ms} c) (run-update c′) w v k g = on-update ms (rule S h) w k (λ _. alike-shown k (update-shows S ms (rule S h .0) (k .near .good1) g) (update-near ms (rule S h .0) (k .near)))
@@ -160,18 +166,18 @@ module _ (S : Setting) where
   in-step {around = inside _ _ _} h (run-transaction d) d′ w v k g = absurd (rule S h)
   in-step {around = inside _ _ _} h (run-again d e) d′ w v k g = absurd (rule S h)
   in-step {around = outside} {s} {t} h (run-transaction {at = at} {start = start} {end = end} d) (run-transaction d′) w v k g = ⊎-elim
-      (λ y. inr (hidden-transactions {at = at} {start = start} {end = end} (rule S h) (run-transaction d) (run-transaction d′) k y))
+      (λ y. inr (hidden-transactions {at = at} {start = start} {end = end} (rule S h) w (run-transaction d) (run-transaction d′) k y))
       inr
-      (in-step (rule S h) d d′ (nothing-known _ s) (nothing-known _ t) k g)
+      (in-step (rule S h) d d′ (nothing-known _ s w) (nothing-known _ t v) k g)
   in-step {around = outside} {s} {t} h (run-transaction d) (run-again d′ e′) w v k g = ⊎-elim
-      (λ y. inr (hidden-transactions (rule S h) (run-transaction d) (run-again d′ e′) k y))
+      (λ y. inr (hidden-transactions (rule S h) w (run-transaction d) (run-again d′ e′) k y))
       absurd
-      (in-step (rule S h) d d′ (nothing-known _ s) (nothing-known _ t) k g)
+      (in-step (rule S h) d d′ (nothing-known _ s w) (nothing-known _ t v) k g)
   in-step {around = outside} {s} {t} h (run-again {us = us} {vs = vs} d e) (run-transaction d′) w v k g = ⊎-elim
-      (λ y. inr (hidden-transactions (rule S h) (run-again d e) (run-transaction d′) k y))
+      (λ y. inr (hidden-transactions (rule S h) w (run-again d e) (run-transaction d′) k y))
       absurd
-      (in-step (rule S h) d d′ (nothing-known _ s) (nothing-known _ t) k (no-gain-first us vs g))
+      (in-step (rule S h) d d′ (nothing-known _ s w) (nothing-known _ t v) k (no-gain-first us vs g))
   in-step {around = outside} {s} {t} h (run-again {us = us} {vs = vs} d e) (run-again d′ e′) w v k g = ⊎-elim
-      (λ y. inr (hidden-transactions (rule S h) (run-again d e) (run-again d′ e′) k y))
+      (λ y. inr (hidden-transactions (rule S h) w (run-again d e) (run-again d′ e′) k y))
       (λ near. in-step h e e′ w v (alike-shown k (hidden-along S (rule S h) d (k .near .good1) (no-gain-first us vs g)) near) (no-gain-later us g))
-      (in-step (rule S h) d d′ (nothing-known _ s) (nothing-known _ t) k (no-gain-first us vs g))
+      (in-step (rule S h) d d′ (nothing-known _ s w) (nothing-known _ t v) k (no-gain-first us vs g))

@@ -214,8 +214,3 @@ module _ (s : List ℕ) where
       closed j l (taken {j = i} a b k) =
           let d : j < roles s = rw count at l in
           c .taken j i p d (rw count at a) (rw (column-at (takes s) (roles s) j d) at b) k
-
-  -- a role that there is not means nobody
-  pub meaning-beyond : (r : ℕ) → roles s ≤ r → meaning s r ≡ 0
-  unfolding meanings meaning
-  meaning-beyond r l = List·getD-eq-default (rounds ts ms (roles s)) 0 {n = r} (rw (length-rounds ts ms alike (roles s), count) l)

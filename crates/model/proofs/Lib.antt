@@ -3,7 +3,11 @@ pub mod Number
 pub mod Truth
 pub mod Sets
 pub mod Bytes
+pub mod Integers
+pub mod Arithmetic
 pub mod Accepted
+pub mod Rows
+pub mod Taking
 pub mod Fixed
 pub mod Enough
 pub mod Least
@@ -16,12 +20,15 @@ pub mod Verdict
 pub mod Fits
 pub mod Bodies
 pub mod Reading
+pub mod Standing
 pub mod Refusals
 pub mod FlowParts
 pub mod RunRestart
 pub mod RunLaws
 pub mod RunPolicy
 pub mod RunFuel
+pub mod Bound
+pub mod Spent
 pub mod Sees
 pub mod Openness
 pub mod Updates

@@ -1,6 +1,6 @@
 -- A mutation puts bytes into one row's members or takes: all else stays, and what it puts there is allowed.
-use Prim.Native.Nat.{ℕ, _+_, _-_, _^_, _<_, _≤_}
-use mathlib.Core.Path.{_≡_, refl, sym, ap, _∙_}
+use Prim.Native.Nat.{ℕ, _+_, _^_, _<_, _≤_}
+use mathlib.Core.Path.{_≡_, refl, sym, _∙_}
 use mathlib.Core.Logic.{inl, inr, ⊎-elim}
 use mathlib.Core.List.{List}
 use mathlib.Core.Bool.{Bool, true}
@@ -9,27 +9,34 @@ use native.Mathlib.Nat.{lt-of-lt-of-le, lt-of-le-of-lt, lt-trans}
 use native.Mathlib.Decide.{ℕ-discrete}
 use lib.ListN.{length}
 use lib.Pow.{pow-mono}
+use Rattle.model.specs.Limits.{headBytes, fieldBytes}
 use Rattle.model.specs.Sets.{has, with, without}
-use Rattle.model.specs.Bytes.{byte, put, startsWith}
-use Rattle.model.specs.Policy.{policyHead, principals, roles, rowAt, viewers, trusters, members, takes, mayTake, mayHold, Accepted, SameFixed, Agree}
+use Rattle.model.specs.Bytes.{byte, word, put}
+use Rattle.model.specs.Policy.{policyHead, hasMark, version, principals, roles, rowAt, viewers, trusters, members, takes, mayTake, mayHold, Accepted, SameFixed, Agree}
 use Rattle.model.specs.Mutation.{Kind, addMember, deleteMember, addTaken, deleteTaken, operandBelow, allowed, putMembers, putTakes, mutate}
-use Rattle.model.proofs.Accepted.{RowFacts, Facts, accepted-facts, facts-accepted}
+use Rattle.model.proofs.Accepted.{RowFacts, Facts, accepted-head, accepted-facts, facts-accepted}
+use Rattle.model.proofs.Rows.{fields-fit, row-inside, row-there, rows-apart, head-apart, rows-same, bytes-same}
 use Rattle.model.proofs.Bytes.{length-put, byte-put-other, word-bytes, word-put-other, word-put, starts-put}
-use Rattle.model.proofs.Fixed.{may-take-fixed, may-hold-fixed}
+use Rattle.model.proofs.Fixed.{agree-sym, agree-trans, may-take-fixed, may-hold-fixed}
 use Rattle.model.proofs.Sets.{has-below, within-has, has-within, with-has, with-below, without-has, without-le}
 use Rattle.model.proofs.Truth.{both}
 
--- t is s but for bytes of row r's members and takes
+-- t is s but for bytes of row r's members and takes, its fields from offset 10 on
 record Regranted (s t : List ℕ) (r : ℕ) : Type 0 where
   long : length t ≡ length s
-  mark : startsWith t policyHead ≡ startsWith s policyHead
-  elsewhere : (p : ℕ) → ((q : ℕ) → q < 12 → p ≡ rowAt r + 10 + q → ⊥) → byte s p ≡ byte t p
+  mark : hasMark t ≡ hasMark s
+  elsewhere : (p : ℕ) → ((q : ℕ) → 10 ≤ q → q < fieldBytes → p ≡ rowAt s r + q → ⊥) → byte s p ≡ byte t p
 
-put-regrants : (s : List ℕ) (r o n v : ℕ) → 10 ≤ o → o + n ≤ 22 → Regranted s (put s (rowAt r + o) n v) r
+-- what is put behind the head leaves its mark
+put-mark : (s : List ℕ) (at n v : ℕ) → headBytes ≤ at → hasMark (put s at n v) ≡ hasMark s
+unfolding hasMark
+put-mark s at n v l = starts-put s policyHead at n v (omega arith)
+
+put-regrants : (s : List ℕ) (r o n v : ℕ) → 10 ≤ o → o + n ≤ fieldBytes → Regranted s (put s (rowAt s r + o) n v) r
 put-regrants s r o n v h k = record {
-  long = length-put s (rowAt r + o) n v;
-  mark = starts-put s policyHead (rowAt r + o) n v (omega arith);
-  elsewhere = λ p out. sym (byte-put-other s (rowAt r + o) n v p (λ j l e. out (o + j - 10) (omega arith) (omega arith)));
+  long = length-put s (rowAt s r + o) n v;
+  mark = put-mark s (rowAt s r + o) n v (omega (arith, head-apart s r));
+  elsewhere = λ p out. sym (byte-put-other s (rowAt s r + o) n v p (λ j l e. out (o + j) (omega arith) (omega arith) (omega arith)));
 }
 
 mutate-regrants : (s : List ℕ) (k : Kind) (r x : ℕ) → Regranted s (mutate s k r x) r
@@ -39,37 +46,51 @@ mutate-regrants s deleteMember r x = put-regrants s r 10 4 _ (omega arith) (omeg
 mutate-regrants s addTaken r x = put-regrants s r 14 8 _ (omega arith) (omega arith)
 mutate-regrants s deleteTaken r x = put-regrants s r 14 8 _ (omega arith) (omega arith)
 
-regranted-fixed : (s t : List ℕ) (r : ℕ) → Regranted s t r → SameFixed s t
-unfolding viewers trusters
-regranted-fixed s t r g = record {
-  same-version = word-bytes s t 3 2 (λ j l. g .elsewhere (3 + j) (λ q h e. omega arith));
-  same-principals = g .elsewhere 5 (λ q h e. omega arith);
-  same-roles = g .elsewhere 6 (λ q h e. omega arith);
-  same-owner = λ i l. g .elsewhere (rowAt i) (λ q h e. omega arith);
-  same-name = λ i l. g .elsewhere (rowAt i + 1) (λ q h e. omega arith);
-  same-viewers = λ i l. word-bytes s t (rowAt i + 2) 4 (λ j k. g .elsewhere (rowAt i + 2 + j) (λ q h e. omega arith));
-  same-trusters = λ i l. word-bytes s t (rowAt i + 6) 4 (λ j k. g .elsewhere (rowAt i + 6 + j) (λ q h e. omega arith));
-}
+module _ (s t : List ℕ) (r : ℕ) (g : Regranted s t r) where
+  head-kept : (p : ℕ) → p < headBytes → byte s p ≡ byte t p
+  head-kept p l = g .elsewhere p (λ q h k e. omega (arith, head-apart s r))
 
-regranted-other : (s t : List ℕ) (r i : ℕ) → Regranted s t r → (i ≡ r → ⊥) → Agree s t i
-unfolding members takes
-regranted-other s t r i g d = record {
-  same-members = word-bytes s t (rowAt i + 10) 4 (λ j k. g .elsewhere (rowAt i + 10 + j) (λ q h e. omega arith));
-  same-takes = word-bytes s t (rowAt i + 14) 8 (λ j k. g .elsewhere (rowAt i + 14 + j) (λ q h e. omega arith));
-}
+  version-kept : version s ≡ version t
+  version-kept = word-bytes s t 3 2 (λ j l. head-kept (3 + j) (omega arith))
+
+  -- a byte of row i, if it is not of row r's members and takes
+  byte-kept : (i o p : ℕ) → o < fieldBytes → (i ≡ r → o < 10) → p ≡ rowAt s i + o → byte s p ≡ byte t p
+  byte-kept i o p l d e = g .elsewhere p (λ q h k f.
+      let (same, off) = rows-apart s i r o q (omega (arith, fields-fit s)) (omega (arith, fields-fit s)) (omega arith) in
+      omega (arith, d same))
+
+  word-kept : (i o n : ℕ) → o + n ≤ fieldBytes → (i ≡ r → o + n ≤ 10) → word s (rowAt s i + o) n ≡ word t (rowAt t i + o) n
+  word-kept i o n l d = rw (← rows-same s t version-kept i)
+      (word-bytes s t (rowAt s i + o) n (λ j k. byte-kept i (o + j) (rowAt s i + o + j) (omega arith) (λ e. omega (arith, d e)) (omega arith)))
+
+  regranted-fixed : SameFixed s t
+  unfolding viewers trusters
+  regranted-fixed = record {
+    same-version = version-kept;
+    same-principals = head-kept 5 (omega arith);
+    same-roles = head-kept 6 (omega arith);
+    same-owner = λ i l. rw (← rows-same s t version-kept i) (byte-kept i 0 (rowAt s i) (omega arith) (λ e. omega arith) (omega arith));
+    same-name = λ i l. rw (← rows-same s t version-kept i) (byte-kept i 1 (rowAt s i + 1) (omega arith) (λ e. omega arith) (omega arith));
+    same-viewers = λ i l. word-kept i 2 4 (omega arith) (λ e. omega arith);
+    same-trusters = λ i l. word-kept i 6 4 (omega arith) (λ e. omega arith);
+  }
+
+  regranted-other : (i : ℕ) → (i ≡ r → ⊥) → Agree s t i
+  unfolding members takes
+  regranted-other i d = record {
+    same-members = word-kept i 10 4 (omega arith) (λ e. absurd (d e));
+    same-takes = word-kept i 14 8 (omega arith) (λ e. absurd (d e));
+  }
 
 pub length-mutate : (s : List ℕ) (k : Kind) (r x : ℕ) → length (mutate s k r x) ≡ length s
 length-mutate s k r x = mutate-regrants s k r x .long
-
-pub mutate-head : (s : List ℕ) (k : Kind) (r x : ℕ) → startsWith (mutate s k r x) policyHead ≡ startsWith s policyHead
-mutate-head s k r x = mutate-regrants s k r x .mark
 
 pub mutate-fixed : (s : List ℕ) (k : Kind) (r x : ℕ) → SameFixed s (mutate s k r x)
 mutate-fixed s k r x = regranted-fixed s (mutate s k r x) r (mutate-regrants s k r x)
 
 -- a row that is not named ends unchanged
 pub mutate-other : (s : List ℕ) (k : Kind) (r x i : ℕ) → (i ≡ r → ⊥) → Agree s (mutate s k r x) i
-mutate-other s k r x i = regranted-other s (mutate s k r x) r i (mutate-regrants s k r x)
+mutate-other s k r x i = regranted-other s (mutate s k r x) r (mutate-regrants s k r x) i
 
 pub allowed-fixed : {a b : List ℕ} → SameFixed a b → (k : Kind) (r x : ℕ) → r < roles a → x < operandBelow a k → allowed a k r x ≡ allowed b k r x
 unfolding allowed
@@ -79,42 +100,74 @@ allowed-fixed f addTaken r x h l = may-take-fixed f r x h l
 allowed-fixed f deleteTaken r x h l = refl
 
 -- what the members and the takes of the named row become
-abbrev pub membersAfter : List ℕ → Kind → ℕ → ℕ → ℕ
+abbrev membersAfter : List ℕ → Kind → ℕ → ℕ → ℕ
 membersAfter s addMember r x = with (members s r) x
 membersAfter s deleteMember r x = without (members s r) x
 membersAfter s addTaken r x = members s r
 membersAfter s deleteTaken r x = members s r
 
-abbrev pub takesAfter : List ℕ → Kind → ℕ → ℕ → ℕ
+abbrev takesAfter : List ℕ → Kind → ℕ → ℕ → ℕ
 takesAfter s addMember r x = takes s r
 takesAfter s deleteMember r x = takes s r
 takesAfter s addTaken r x = with (takes s r) x
 takesAfter s deleteTaken r x = without (takes s r) x
 
-put-members : (s : List ℕ) (r v : ℕ) → Accepted s → r < roles s → v < 2 ^ principals s
-    → (members (putMembers s r v) r ≡ v) × (takes (putMembers s r v) r ≡ takes s r)
-unfolding members takes putMembers
-put-members s r v a h l =
-    let f = accepted-facts s a in
-    let whole = word-put s (rowAt r + 10) 4 v (lt-of-lt-of-le l (pow-mono (f .principals-fit))) (omega arith) in
-    (whole, word-put-other s (rowAt r + 10) 4 v (rowAt r + 14) 8 (inr (omega arith)))
+-- rows stand where they stood
+put-rows : (s : List ℕ) (r o n v i : ℕ) → 10 ≤ o → o + n ≤ fieldBytes → rowAt (put s (rowAt s r + o) n v) i ≡ rowAt s i
+put-rows s r o n v i h k = sym (rows-same s _ (version-kept s _ r (put-regrants s r o n v h k)) i)
 
-put-takes : (s : List ℕ) (r v : ℕ) → Accepted s → r < roles s → v < 2 ^ roles s
-    → (members (putTakes s r v) r ≡ members s r) × (takes (putTakes s r v) r ≡ v)
-unfolding members takes putTakes
-put-takes s r v a h l =
-    let f = accepted-facts s a in
-    let whole = word-put s (rowAt r + 14) 8 v (lt-of-lt-of-le l (pow-mono (f .roles-fit))) (omega arith) in
-    (word-put-other s (rowAt r + 14) 8 v (rowAt r + 10) 4 (inl (omega arith)), whole)
+module _ (s : List ℕ) (r v : ℕ) (ok : Accepted s) (l : r < roles s) where
+  room : rowAt s r + fieldBytes ≤ length s
+  room = omega (arith, row-there s r (row-inside s (accepted-head s ok) r l), fields-fit s)
+
+  put-members : v < 2 ^ principals s → (members (putMembers s r v) r ≡ v) × (takes (putMembers s r v) r ≡ takes s r)
+  unfolding members takes putMembers
+  put-members b = rw (put-rows s r 10 4 v r (omega arith) (omega arith)) (
+    word-put s (rowAt s r + 10) 4 v (lt-of-lt-of-le b (pow-mono (accepted-facts s ok .principals-fit))) (omega (arith, room)),
+    word-put-other s (rowAt s r + 10) 4 v (rowAt s r + 14) 8 (inr (omega arith)),
+  )
+
+  put-takes : v < 2 ^ roles s → (members (putTakes s r v) r ≡ members s r) × (takes (putTakes s r v) r ≡ v)
+  unfolding members takes putTakes
+  put-takes b = rw (put-rows s r 14 8 v r (omega arith) (omega arith)) (
+    word-put-other s (rowAt s r + 14) 8 v (rowAt s r + 10) 4 (inl (omega arith)),
+    word-put s (rowAt s r + 14) 8 v (lt-of-lt-of-le b (pow-mono (accepted-facts s ok .roles-fit))) (omega (arith, room)),
+  )
 
 -- the named row after a mutation
-pub mutate-row : (s : List ℕ) (k : Kind) (r x : ℕ) → Accepted s → r < roles s → x < operandBelow s k
+mutate-row : (s : List ℕ) (k : Kind) (r x : ℕ) → Accepted s → r < roles s → x < operandBelow s k
     → (members (mutate s k r x) r ≡ membersAfter s k r x) × (takes (mutate s k r x) r ≡ takesAfter s k r x)
 unfolding mutate
 mutate-row s addMember r x a h l = put-members s r _ a h (with-below (principals s) (members s r) x (accepted-facts s a .row r h .members-below) l)
 mutate-row s deleteMember r x a h l = put-members s r _ a h (lt-of-le-of-lt (without-le (members s r) x) (accepted-facts s a .row r h .members-below))
 mutate-row s addTaken r x a h l = put-takes s r _ a h (with-below (roles s) (takes s r) x (accepted-facts s a .row r h .takes-below) l)
 mutate-row s deleteTaken r x a h l = put-takes s r _ a h (lt-of-le-of-lt (without-le (takes s r) x) (accepted-facts s a .row r h .takes-below))
+
+-- two policies that agree on a row still do after the same mutation
+module _ (a b : List ℕ) (k : Kind) (r x : ℕ) where
+  members-agree : (kind : Kind) → Agree a b r → membersAfter a kind r x ≡ membersAfter b kind r x
+  members-agree addMember e = rw (e .same-members)
+  members-agree deleteMember e = rw (e .same-members)
+  members-agree addTaken e = e .same-members
+  members-agree deleteTaken e = e .same-members
+
+  takes-agree : (kind : Kind) → Agree a b r → takesAfter a kind r x ≡ takesAfter b kind r x
+  takes-agree addMember e = e .same-takes
+  takes-agree deleteMember e = e .same-takes
+  takes-agree addTaken e = rw (e .same-takes)
+  takes-agree deleteTaken e = rw (e .same-takes)
+
+  pub mutate-agrees : Accepted a → r < roles a → x < operandBelow a k → Accepted b → r < roles b → x < operandBelow b k
+      → (i : ℕ) → Agree a b i → Agree (mutate a k r x) (mutate b k r x) i
+  mutate-agrees oka la oa okb lb ob i e = go (ℕ-discrete i r)
+    where
+      go : Dec (i ≡ r) → Agree (mutate a k r x) (mutate b k r x) i
+      go (yes q) =
+          let u = mutate-row a k r x oka la oa in
+          let v = mutate-row b k r x okb lb ob in
+          let d : Agree a b r = rw q at e in
+          rw q record { same-members = u .0 ∙ members-agree k d ∙ sym (v .0); same-takes = u .1 ∙ takes-agree k d ∙ sym (v .1) }
+      go (no n) = agree-trans (agree-sym (mutate-other a k r x i n)) (agree-trans e (mutate-other b k r x i n))
 
 -- a set of numbers below n, each of which may be in it
 record Granted (n : ℕ) (may : ℕ → Bool) (a : ℕ) : Type 0 where
@@ -186,11 +239,12 @@ granted-row s t i e l f m k = record {
 pub mutate-accepted : (s : List ℕ) (k : Kind) (r x : ℕ) → Accepted s → r < roles s → x < operandBelow s k → allowed s k r x ≡ true
     → Accepted (mutate s k r x)
 mutate-accepted s k r x acc h l ok = facts-accepted t record {
-  head = mutate-head s k r x ∙ f .head;
+  headed = rw length-mutate (f .headed);
+  marked = mutate-regrants s k r x .mark ∙ f .marked;
   principals-some = rw (← e .same-principals) (f .principals-some);
   principals-fit = rw (← e .same-principals) (f .principals-fit);
   roles-fit = rw (← e .same-roles) (f .roles-fit);
-  long = length-mutate s k r x ∙ f .long ∙ ap rowAt (e .same-roles);
+  long = length-mutate s k r x ∙ f .long ∙ bytes-same s t (e .same-version) (e .same-roles);
   row = λ i j. stays i (rw (e .same-roles) j) (ℕ-discrete i r);
 }
   where

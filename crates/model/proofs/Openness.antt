@@ -1,24 +1,22 @@
 -- What is open to a group under policies with one fixed part: rows are by the fixed part, meanings of hidden rows are hidden (F1) and those of open rows depend on open rows only (F2), so policies that agree on open rows show the same atoms and decide queries on open rows alike.
 use Prim.Native.Nat.{ℕ, _<_, _≤_}
-use native.Mathlib.Omega.{arith}
-use native.Mathlib.Decide.{decLt}
 use mathlib.Core.Path.{_≡_, refl, sym, _∙_}
 use mathlib.Core.Logic.{_⊎_, inl, inr, ⊎-elim}
 use mathlib.Core.List.{List, [], _∷_, List·Memᴰ, List·Memᴰ·head, List·Memᴰ·tail, List·Memᴰ·not-nil, List·Memᴰ·cases-cons, Memᴰ·append-left, Memᴰ·append-right}
 use mathlib.Core.Bool.{Bool, true, false, not, _&&_, _||_}
+use Rattle.model.specs.Limits.{variableLimit}
 use Rattle.model.specs.Policy.{Side, roles, watchers, Accepted, SameFixed, Agree}
 use Rattle.model.specs.Meaning.{meaning}
 use Rattle.model.specs.Syntax.{Fixed, of, everyone, Atom, role, fixed, Query}
-use Rattle.model.specs.Program.{variables, variableLimit}
+use Rattle.model.specs.Program.{variables}
 use Rattle.model.specs.Order.{fixedSet, includes, AtMost, same, chain, asked, own, lies}
 use Rattle.model.specs.Flow.{atomLabel, queryLabel, listLabel}
 use Rattle.model.specs.Atoms.{atomSet, holds}
 use Rattle.model.specs.Run.{Update, broken}
 use Rattle.model.specs.Claim.{sees, Gains}
 use Rattle.model.proofs.Truth.{backwards, true-or-false}
-use Rattle.model.proofs.Fits.{Each}
+use Rattle.model.specs.Fits.{Each}
 use Rattle.model.proofs.Fixed.{fixed-refl, fixed-sym, fixed-trans, agree-refl, agree-sym, agree-trans}
-use Rattle.model.proofs.Least.{meaning-beyond}
 use Rattle.model.proofs.Meaning.{meaning-watched, meaning-seen}
 use Rattle.model.proofs.Beyond.{watchers-same}
 use Rattle.model.proofs.Order.{JoinAtMost}
@@ -84,20 +82,10 @@ hidden-role {S} {s} g r h = backwards _ _ (sees-more (S .group) (meaning s r) (w
 -- F2 as it is used: where a row is open its role's meaning is the same in both
 pub meaning-same : {S : Setting} {a b : List ℕ} → Near S a b → (r : ℕ) → rowOpen S r ≡ true → meaning a r ≡ meaning b r
 unfolding isOpen atomSet fixedSet
-meaning-same {S} {a} {b} n r o = go (decLt r (roles a))
-  where
-    over : (j : ℕ) → sees (S .group) (watchers (S .side) a j) ≡ true → rowOpen S j ≡ true
-    over j h = sym (open-fixed (n .good1) (of (S .side) j)) ∙ h
-
-    ab : SameFixed a b
-    ab = fixed-trans (fixed-sym (n .good1 .same-base)) (n .good2 .same-base)
-
-    go : Dec (r < roles a) → meaning a r ≡ meaning b r
-    go (yes l) = meaning-seen (S .side) (sees (S .group)) a b (n .good1 .accepted) (n .good2 .accepted) ab
-        (λ j k h. n .rows j (rw (n .good1 .same-base .same-roles) k) (over j h)) r l (open-fixed (n .good1) (of (S .side) r) ∙ o)
-    go (no k) =
-        let q : roles a ≤ r = omega arith in
-        meaning-beyond a r q ∙ sym (meaning-beyond b r (rw (ab .same-roles) at q))
+meaning-same {S} {a} {b} n r o = meaning-seen (S .side) (sees (S .group)) (sees-more (S .group)) a b (n .good1 .accepted)
+    (fixed-trans (fixed-sym (n .good1 .same-base)) (n .good2 .same-base))
+    (λ j k h. n .rows j (rw (n .good1 .same-base .same-roles) k) (sym (open-fixed (n .good1) (of (S .side) j)) ∙ h))
+    r (open-fixed (n .good1) (of (S .side) r) ∙ o)
 
 -- the same atoms are open
 pub open-same : {S : Setting} {a b : List ℕ} → Near S a b → (x : Atom) → isOpen S a x ≡ isOpen S b x

@@ -2,8 +2,8 @@
 use Prim.Native.Nat.{ℕ}
 use mathlib.Core.Path.{_≡_, refl, sym, _∙_}
 use mathlib.Core.Logic.{_⊎_, inl, inr, ⊎-elim}
-use mathlib.Core.List.{List, [], _∷_, _++_, List·Memᴰ, List·Memᴰ·head, List·Memᴰ·tail}
-use mathlib.Core.Bool.{true, false, _&&_, false≢true, and-assoc}
+use mathlib.Core.List.{List, [], _∷_, List·Memᴰ, List·Memᴰ·head, List·Memᴰ·tail}
+use mathlib.Core.Bool.{true, false, false≢true}
 use borrow.Author.Tests.{eq-eqb, eqb-true}
 use Rattle.model.specs.Sets.{within}
 use Rattle.model.specs.Policy.{Side, reading, trust}
@@ -141,8 +141,3 @@ module _ (s : List ℕ) where
   derivable-join known [] b h = refl
   derivable-join known (c ∷ join) b h =
       and-both (atMost s known c b) _ (derivable-test known c b (h c (List·Memᴰ·head refl))) (derivable-join known join b (λ a m. h a (List·Memᴰ·tail m)))
-
-  pub join-append : (known : List Query) (j k : List Atom) (b : Atom) → joinAtMost s known (j ++ k) b ≡ (joinAtMost s known j b && joinAtMost s known k b)
-  unfolding joinAtMost
-  join-append known [] k b = refl
-  join-append known (a ∷ j) k b = rw (join-append known j k b) (sym (and-assoc (atMost s known a b) (joinAtMost s known j b) (joinAtMost s known k b)))

@@ -10,15 +10,17 @@ use mathlib.Core.Bool.{Bool, true, false, cond, _||_}
 use lib.Dec.{eqb, ltb, leb}
 use lib.ListN.{length}
 use borrow.Author.Tests.{ltb-true, leb-true, eqb-true}
+use Rattle.model.specs.Limits.{programBytes, variableLimit, statementDepth, expressionDepth, listLimit}
 use Rattle.model.specs.Number.{programLength, programRange, programDepth}
 use Rattle.model.specs.Bytes.{byte}
 use Rattle.model.specs.Policy.{reading, trust}
 use Rattle.model.specs.Mutation.{Kind, addMember, deleteMember, addTaken, deleteTaken, Mutation}
 use Rattle.model.specs.Syntax.{of, Atom, role, fixed, Operator, sum, difference, product, quotient, less, equal, Expr, Stmt}
-use Rattle.model.specs.Program.{Read, got, bad, andThen, readByte, readBelow, readMark, readMany, programHead, programBytes, variableLimit, statementDepth, expressionDepth, listLimit, atomAt, readAtom, readLabel, readQuery, mutationAt, readMutation, binaryAt, exprAt, readExpr, blockOf, assignAt, blockAt, ifAt, whileAt, queryAt, updateAt, transactionAt, stmtAt, readStmt, variables, readBody, readProgram}
+use Rattle.model.specs.Program.{Read, got, bad, andThen, readByte, readBelow, readMark, readMany, programHead, atomAt, readAtom, readLabel, readQuery, mutationAt, readMutation, binaryAt, exprAt, readExpr, blockOf, assignAt, blockAt, ifAt, whileAt, queryAt, updateAt, transactionAt, stmtAt, readStmt, variables, readBody, readProgram}
 use Rattle.model.specs.Flow.{part, bodies}
 use Rattle.model.proofs.Bodies.{BodiesWithin, bodies-later, two-within, none-within, block-within}
-use Rattle.model.proofs.Fits.{Each, each-cons, AtomFits, QueryFits, operandLimit, MutationFits, ExprFits, Fits}
+use Rattle.model.specs.Fits.{Each, AtomFits, QueryFits, operandLimit, MutationFits, ExprFits, Fits}
+use Rattle.model.proofs.Fits.{each-cons}
 use Rattle.model.proofs.Truth.{either}
 
 -- the numbers that reading refuses with

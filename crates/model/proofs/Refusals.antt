@@ -7,13 +7,13 @@ use mathlib.Core.Bool.{Bool, true, false, cond, not, _&&_}
 use lib.Dec.{eqb, ltb, leb}
 use lib.ListN.{length}
 use borrow.Author.Tests.{eqb-false}
-use Rattle.model.specs.Number.{accepted, policyLength, rowGrants, flowPlace, flowGrant, flowReading, flowTrust, unless, first, firstBelow, Verdict, fine, refused, require, orElse}
+use Rattle.model.specs.Limits.{headBytes, principalLimit, roleLimit}
+use Rattle.model.specs.Number.{accepted, policyLength, rowGrants, flowTransaction, flowGrant, flowReading, flowTrust, unless, first, firstBelow, Verdict, fine, refused, require, orElse}
 use Rattle.model.specs.Sets.{has, within}
-use Rattle.model.specs.Bytes.{startsWith}
-use Rattle.model.specs.Policy.{policyHead, rowAt, owner, name, viewers, trusters, members, takes, mayTake, Side, reading, trust, principals, roles, policyNumber, headNumber, rowNumber, principalNumber, ownerNumber, pairNumber, grantsNumber, takesNumber, takenNumber}
+use Rattle.model.specs.Policy.{hasMark, policyBytes, owner, name, viewers, trusters, members, takes, mayTake, Side, reading, trust, principals, roles, policyNumber, headNumber, rowNumber, principalNumber, ownerNumber, pairNumber, grantsNumber, takesNumber, takenNumber}
 use Rattle.model.specs.Syntax.{Atom, Query, Stmt, skip, assign, empty, block, if, while, query, update, transaction}
 use Rattle.model.specs.Program.{Read, got, bad, readProgram}
-use Rattle.model.specs.Flow.{assigned, mutated, Around, outside, inside, listedIn, allAllowed, bothSides, thenKnown, elseKnown, mayAssign, mayUpdate, flow, bodyVerdict, programVerdict}
+use Rattle.model.specs.Flow.{Around, outside, inside, listedIn, allAllowed, bothSides, mayAssign, mayUpdate, flow, bodyVerdict, programVerdict}
 use Rattle.model.proofs.Reading.{program-number}
 
 -- a number of the policy's checks is chosen among numbers up to 6
@@ -35,12 +35,12 @@ below-small f h (suc n) = first-small (firstBelow f n) (f n) (below-small f h n)
 head-small : (s : List ℕ) → Small (headNumber s)
 unfolding headNumber
 head-small s =
-    unless-small (leb 7 (length s)) _ _ (omega arith)
-    (unless-small (startsWith s policyHead) _ _ (omega arith)
+    unless-small (leb headBytes (length s)) _ _ (omega arith)
+    (unless-small (hasMark s) _ _ (omega arith)
     (unless-small (leb 1 (principals s)) _ _ (omega arith)
-    (unless-small (leb (principals s) 32) _ _ (omega arith)
-    (unless-small (leb (roles s) 64) _ _ (omega arith)
-    (unless-small (eqb (length s) (rowAt (roles s))) _ _ (omega arith) (omega arith))))))
+    (unless-small (leb (principals s) principalLimit) _ _ (omega arith)
+    (unless-small (leb (roles s) roleLimit) _ _ (omega arith)
+    (unless-small (eqb (length s) (policyBytes s)) _ _ (omega arith) (omega arith))))))
 
 row-small : (s : List ℕ) (i : ℕ) → Small (rowNumber s i)
 unfolding rowNumber principalNumber ownerNumber pairNumber
@@ -95,15 +95,15 @@ module _ (s p : List ℕ) where
   flow-known around known context (block a b) = or-else-known (flow-known around known context a) (flow-known around known context b)
   flow-known around known context (if e a b) = or-else-known (flow-known around known _ a) (flow-known around known _ b)
   flow-known around known context (while e a) = flow-known around known _ a
-  flow-known outside known context (query at q a b) = number {k = flowPlace} (omega arith)
+  flow-known outside known context (query at q a b) = number {k = flowTransaction} (omega arith)
   flow-known (inside listed xs rs) known context (query at q a b) =
-      require-known (listedIn q listed) flowPlace at (omega arith)
-      (or-else-known (flow-known (inside listed xs rs) (thenKnown q known) _ a) (flow-known (inside listed xs rs) (elseKnown q known) _ b))
-  flow-known outside known context (update at ms) = number {k = flowPlace} (omega arith)
+      require-known (listedIn q listed) flowTransaction at (omega arith)
+      (or-else-known (flow-known (inside listed xs rs) _ _ a) (flow-known (inside listed xs rs) _ _ b))
+  flow-known outside known context (update at ms) = number {k = flowTransaction} (omega arith)
   flow-known (inside listed xs rs) known context (update at ms) =
-      require-known (allAllowed s ms) flowGrant at (omega arith) (sides-known (mayUpdate s p known context listed xs rs) at)
-  flow-known outside known context (transaction at start end qs a) = flow-known (inside qs (assigned a) (mutated a)) [] context a
-  flow-known (inside listed xs rs) known context (transaction at start end qs a) = number {k = flowPlace} (omega arith)
+      require-known (allAllowed s ms) flowGrant at (omega arith) (sides-known (mayUpdate s p known context listed _ _) at)
+  flow-known outside known context (transaction at start end qs a) = flow-known (inside qs _ _) _ context a
+  flow-known (inside listed xs rs) known context (transaction at start end qs a) = number {k = flowTransaction} (omega arith)
 
   verdict-known : Known (programVerdict s p)
   unfolding programVerdict bodyVerdict

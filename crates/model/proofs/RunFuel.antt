@@ -4,11 +4,12 @@ use native.Mathlib.Omega.{arith}
 use mathlib.Core.Path.{_≡_, refl}
 use mathlib.Core.List.{List, []}
 use mathlib.Core.Bool.{Bool, true, false}
+use Rattle.model.specs.Limits.{fuelLimit}
 use Rattle.model.specs.Number.{accepted, fuelSpent}
 use Rattle.model.specs.Syntax.{Query, Expr, Stmt, skip, assign, empty, block, if, while, query, update, transaction}
 use Rattle.model.specs.Atoms.{holds}
 use Rattle.model.specs.Value.{evaluate, truth}
-use Rattle.model.specs.Run.{Update, Result, done, rolled, spent, after, charge, andThen, mutateAll, broken, watched, loop, attempt, execute, finish, fuelLimit, run}
+use Rattle.model.specs.Run.{Update, Result, done, rolled, spent, after, charge, andThen, mutateAll, broken, loop, attempt, execute, finish, run}
 use Rattle.model.proofs.RunLaws.{Begins, run-is, finished-begins, spent-begins}
 
 -- the second result is the first with d units more left; where the first is spent nothing is said
@@ -81,10 +82,10 @@ module _ {d : ℕ} where
   longer empty listed f g e s m = done-longer e
   longer (block a b) listed f g e s m = then-longer (longer a listed f g e s m) (λ s₁ m₁ i j r. longer b listed i j r s₁ m₁)
   longer (if v a b) listed f g e s m = charge-longer f g e (λ i j r. pick-longer (longer a listed i j r s m) (longer b listed i j r s m) (truth (evaluate m v)))
-  longer (while v a) listed f g e s m = loop-longer v (longer a listed) f g (omega arith) f g e s m
+  longer (while v a) listed f g e s m = loop-longer v (longer a listed) _ _ (omega arith) f g e s m
   longer (query at q a b) listed f g e s m = charge-longer f g e (λ i j r. pick-longer (longer a listed i j r s m) (longer b listed i j r s m) (holds s q))
   longer (update at ms) listed f g e s m = charge-longer f g e (λ i j r. pick-longer (rolled-longer r) (done-longer r) (broken listed s (mutateAll s ms)))
-  longer (transaction at start end qs a) listed f g e s m = attempt-longer (λ f₁ g₁ e₁ s₁ m₁. longer a (watched s₁ qs) f₁ g₁ e₁ s₁ m₁) f g (omega arith) f g e s m
+  longer (transaction at start end qs a) listed f g e s m = attempt-longer (λ f₁ g₁ e₁ s₁ m₁. longer a qs f₁ g₁ e₁ s₁ m₁) _ _ (omega arith) f g e s m
 
 -- what a run begins with at one fuel it begins with at any other that is in range
 abbrev refuel : {s p m : List ℕ} {f : ℕ} (g : ℕ) → 1 ≤ g → g ≤ fuelLimit → Begins s p m f → Begins s p m g

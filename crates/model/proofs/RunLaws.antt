@@ -7,11 +7,12 @@ use mathlib.Core.Bool.{Bool, true, false, _&&_}
 use lib.Dec.{eqb, leb}
 use lib.ListN.{length}
 use borrow.Author.Tests.{eqb-true, eq-eqb, leb-true, le-leb}
+use Rattle.model.specs.Limits.{fuelLimit}
 use Rattle.model.specs.Number.{accepted, memoryLength, fuelRange, fuelSpent, Verdict, fine, refused}
 use Rattle.model.specs.Policy.{principals, roles}
 use Rattle.model.specs.Program.{variables, readProgram}
 use Rattle.model.specs.Flow.{programVerdict}
-use Rattle.model.specs.Run.{Update, Result, done, rolled, spent, execute, Outcome, refusal, finish, runBody, fuelLimit, run}
+use Rattle.model.specs.Run.{Update, Result, done, rolled, spent, execute, Outcome, refusal, finish, runBody, run}
 use Rattle.model.proofs.FlowParts.{AcceptedProgram, accepted-program}
 use Rattle.model.proofs.Refusals.{refused-number}
 use Rattle.model.proofs.RunRestart.{body-not-rolled}

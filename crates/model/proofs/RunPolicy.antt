@@ -16,9 +16,10 @@ use Rattle.model.specs.Program.{got, readProgram}
 use Rattle.model.specs.Flow.{rolesOf, mutated, Around, outside, inside}
 use Rattle.model.specs.Atoms.{holds}
 use Rattle.model.specs.Value.{evaluate, truth, setValue}
-use Rattle.model.specs.Run.{Update, Result, done, rolled, spent, after, charge, andThen, mutateAll, broken, watched, loop, attempt, execute, Outcome, finish, run}
+use Rattle.model.specs.Run.{Update, Result, done, rolled, spent, after, charge, andThen, mutateAll, broken, loop, attempt, execute, Outcome, finish, run}
 use Rattle.model.proofs.Bytes.{length-put}
-use Rattle.model.proofs.Fits.{Each, each-cons}
+use Rattle.model.specs.Fits.{Each}
+use Rattle.model.proofs.Fits.{each-cons}
 use Rattle.model.proofs.Fixed.{fixed-refl, fixed-trans, agree-refl, agree-trans}
 use Rattle.model.proofs.FlowParts.{Mutates, mutates-accepted, mutates-fixed, Placed, parts}
 use Rattle.model.proofs.Mutation.{length-mutate, mutate-fixed, mutate-other}
@@ -112,10 +113,10 @@ module _ {R : List ℕ → List ℕ → Type 0} (steps : Steps R) where
   goes empty h listed f s m = to (le-refl f) (steps .stay s) refl
   goes (block a b) h listed f s m = then-goes (goes a (h .0) listed f s m) (λ s₁ m₁ f₁. goes b (h .1) listed f₁ s₁ m₁)
   goes (if e a b) h listed f s m = charge-goes f (λ left. pick-goes (goes a (h .0) listed left s m) (goes b (h .1) listed left s m) (truth (evaluate m e)))
-  goes (while e a) h listed f s m = loop-goes e (goes a h listed) f f s m
+  goes (while e a) h listed f s m = loop-goes e (goes a h listed) _ f s m
   goes (query at q a b) h listed f s m = charge-goes f (λ left. pick-goes (goes a (h .0) listed left s m) (goes b (h .1) listed left s m) (holds s q))
   goes (update at ms) h listed f s m = charge-goes f (λ left. pick-goes (back (le-refl left) (h s)) (to (le-refl left) (h s) refl) (broken listed s (mutateAll s ms)))
-  goes (transaction at start end qs a) h listed f s m = attempt-goes (λ f₁ s₁ m₁. goes a h (watched s₁ qs) f₁ s₁ m₁) f f s m
+  goes (transaction at start end qs a) h listed f s m = attempt-goes (λ f₁ s₁ m₁. goes a h qs f₁ s₁ m₁) _ f s m
 
   -- mutations that each go along R do so together
   mutate-all-goes : (ms : List Mutation) → Each (λ k. (s : List ℕ) → R s (mutate s (k .kind) (k .role) (k .operand))) ms → (s : List ℕ) → R s (mutateAll s ms)
@@ -234,7 +235,7 @@ module _ (s : List ℕ) where
     fine-respected around known context (if e a b) h = let (i, j) = parts s p good h in (fine-respected around known _ a i, fine-respected around known _ b j)
     fine-respected around known context (while e a) h = fine-respected around known _ a (parts s p good h)
     fine-respected outside known context (query at q a b) h = absurd (parts s p good h)
-    fine-respected (inside listed xs rs) known context (query at q a b) h = let (m, i, j) = parts s p good h in (fine-respected (inside listed xs rs) _ _ a i, fine-respected (inside listed xs rs) _ _ b j)
+    fine-respected (inside listed xs rs) known context (query at q a b) h = let (i, j) = parts s p good h in (fine-respected (inside listed xs rs) _ _ a (i .placed), fine-respected (inside listed xs rs) _ _ b (j .placed))
     fine-respected outside known context (update at ms) h = absurd (parts s p good h)
     fine-respected (inside listed xs rs) known context (update at ms) h = mutate-all-goes fine-steps ms (λ k i a. mutate-fine (parts s p good h .0 k i) a)
     fine-respected outside known context (transaction at start end qs a) h = fine-respected _ _ _ a (parts s p good h)

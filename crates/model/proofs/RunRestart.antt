@@ -6,8 +6,8 @@ use mathlib.Core.Bool.{Bool, true, false, true≢false}
 use Rattle.model.specs.Syntax.{Query, Expr, Stmt, skip, assign, empty, block, if, while, query, update, transaction}
 use Rattle.model.specs.Atoms.{holds}
 use Rattle.model.specs.Value.{evaluate, truth}
-use Rattle.model.specs.Run.{Update, Result, done, rolled, spent, after, charge, andThen, mutateAll, broken, watched, loop, attempt, execute}
-use Rattle.model.proofs.Fits.{Each}
+use Rattle.model.specs.Run.{Update, Result, done, rolled, spent, after, charge, andThen, mutateAll, broken, loop, attempt, execute}
+use Rattle.model.specs.Fits.{Each}
 
 -- the updates that were carried out
 abbrev pub updatesOf : Result → List Update
@@ -76,10 +76,10 @@ caused (assign at x e) listed f s m = charge-caused f (λ left. by-none)
 caused empty listed f s m = by-none
 caused (block a b) listed f s m = then-caused (caused a listed f s m) (λ s₁ m₁ f₁. caused b listed f₁ s₁ m₁)
 caused (if e a b) listed f s m = charge-caused f (λ left. pick-caused (truth (evaluate m e)) (λ _. caused a listed left s m) (caused b listed left s m))
-caused (while e a) listed f s m = loop-caused e (caused a listed) f f s m
+caused (while e a) listed f s m = loop-caused e (caused a listed) _ f s m
 caused (query at q a b) listed f s m = charge-caused f (λ left. pick-caused (holds s q) (λ _. caused a listed left s m) (caused b listed left s m))
 caused (update at ms) listed f s m = charge-caused f (λ left. pick-caused (broken listed s (mutateAll s ms)) (λ h. by _ (List·Memᴰ·head refl) h) by-none)
-caused (transaction at start end qs a) listed f s m = attempt-caused (λ f₁ s₁ m₁. execute a (watched s₁ qs) f₁ s₁ m₁) f f s m
+caused (transaction at start end qs a) listed f s m = attempt-caused (λ f₁ s₁ m₁. execute a qs f₁ s₁ m₁) _ f s m
 
 -- a statement none of whose updates failed a listed query is not rolled back
 pub no-break-no-rollback : (x : Stmt) (listed : List Query) (f : ℕ) (s m : List ℕ) → NoneBroken listed (updatesOf (execute x listed f s m))
@@ -94,22 +94,30 @@ pub body-not-rolled : (x : Stmt) (f : ℕ) (s m s₁ : List ℕ) (us : List Upda
 unfolding broken
 body-not-rolled x f s m = no-break-no-rollback x [] f s m (λ u i. refl)
 
+-- what was carried out before a restart stays among the updates
+among : (us : List Update) (y : Result) {u : Update} → List·Memᴰ u us → List·Memᴰ u (updatesOf (after us y))
+unfolding after
+among us (done s₁ m₁ vs f₁) i = Memᴰ·append-left vs i
+among us (rolled s₁ vs f₁) i = Memᴰ·append-left vs i
+among us (spent vs) i = Memᴰ·append-left vs i
+
+-- so a body none of whose updates failed a listed query is started once, whatever the bound
+one-start : {qs : List Query} (body : ℕ → List ℕ → List ℕ → Result) (n f : ℕ) (s m : List ℕ) → Caused qs (body f s m)
+    → NoneBroken qs (updatesOf (attempt body (suc n) (suc f) s m)) → attempt body (suc n) (suc f) s m ≡ body f s m
+unfolding attempt
+one-start {qs} body n f s m = once
+  where
+    again : Result → Result
+    again x = elim x [ done s₁ m₁ us f₁ ↦ done s₁ m₁ us f₁ | rolled s₁ us f₁ ↦ after us (attempt body n f₁ s₁ m) | spent us ↦ spent us ]
+
+    once : {x : Result} → Caused qs x → NoneBroken qs (updatesOf (again x)) → again x ≡ x
+    once by-none none = refl
+    once (by {s = s₁} {us = us} {f = f₁} u i h) none = absurd (true≢false (sym h ∙ none u (among us (attempt body n f₁ s₁ m) i)))
+    once never none = refl
+
 -- and a transaction is its body, after the one unit of its one start
 pub no-break-no-restart : (at start end : ℕ) (qs : List Query) (a : Stmt) (listed : List Query) (f : ℕ) (s m : List ℕ)
     → NoneBroken qs (updatesOf (execute (transaction at start end qs a) listed (suc f) s m))
     → execute (transaction at start end qs a) listed (suc f) s m ≡ execute a qs f s m
-unfolding execute attempt after
-no-break-no-restart at start end qs a listed f s m = once (caused a qs f s m)
-  where
-    among : (us : List Update) (y : Result) {u : Update} → List·Memᴰ u us → List·Memᴰ u (updatesOf (after us y))
-    among us (done s₁ m₁ vs f₁) i = Memᴰ·append-left vs i
-    among us (rolled s₁ vs f₁) i = Memᴰ·append-left vs i
-    among us (spent vs) i = Memᴰ·append-left vs i
-
-    again : Result → Result
-    again x = elim x [ done s₁ m₁ us f₁ ↦ done s₁ m₁ us f₁ | rolled s₁ us f₁ ↦ after us (attempt (execute a qs) f f₁ s₁ m) | spent us ↦ spent us ]
-
-    once : {x : Result} → Caused qs x → NoneBroken qs (updatesOf (again x)) → again x ≡ x
-    once by-none none = refl
-    once (by {s = s₁} {us = us} {f = f₁} u i h) none = absurd (true≢false (sym h ∙ none u (among us (attempt (execute a qs) f f₁ s₁ m) i)))
-    once never none = refl
+unfolding execute
+no-break-no-restart at start end qs a listed f s m = one-start (execute a qs) _ f s m (caused a qs f s m)

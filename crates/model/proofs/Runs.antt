@@ -7,7 +7,7 @@ use Rattle.model.specs.Mutation.{Mutation}
 use Rattle.model.specs.Syntax.{Query, Expr, Stmt, skip, assign, empty, block, if, while, query, update, transaction}
 use Rattle.model.specs.Atoms.{holds}
 use Rattle.model.specs.Value.{evaluate, truth, setValue}
-use Rattle.model.specs.Run.{Update, Result, done, rolled, spent, after, charge, andThen, mutateAll, broken, watched, loop, attempt, execute}
+use Rattle.model.specs.Run.{Update, Result, done, rolled, spent, after, charge, andThen, mutateAll, broken, loop, attempt, execute}
 
 -- how a statement ends: with a policy and a memory, or rolled back with a policy
 pub data End : Type 0 where
@@ -48,9 +48,9 @@ pub data Runs : List Query → Stmt → List ℕ → List ℕ → End → List U
   run-update-rolls : {l : List Query} {at : ℕ} {ms : List Mutation} {s m : List ℕ}
       → broken l s (mutateAll s ms) ≡ true → Runs l (update at ms) s m (rolls (mutateAll s ms)) (updateOf s ms ∷ [])
   run-transaction : {l qs : List Query} {at start end : ℕ} {a : Stmt} {s m s₁ m₁ : List ℕ} {us : List Update}
-      → Runs (watched s qs) a s m (ends s₁ m₁) us → Runs l (transaction at start end qs a) s m (ends s₁ m₁) us
+      → Runs qs a s m (ends s₁ m₁) us → Runs l (transaction at start end qs a) s m (ends s₁ m₁) us
   run-again : {l qs : List Query} {at start end : ℕ} {a : Stmt} {s m s₁ s₂ m₂ : List ℕ} {us vs : List Update}
-      → Runs (watched s qs) a s m (rolls s₁) us → Runs l (transaction at start end qs a) s₁ m (ends s₂ m₂) vs
+      → Runs qs a s m (rolls s₁) us → Runs l (transaction at start end qs a) s₁ m (ends s₂ m₂) vs
       → Runs l (transaction at start end qs a) s m (ends s₂ m₂) (us ++ vs)
 
 -- what a result says
@@ -103,19 +103,19 @@ says-loop l e a body h (suc n) (suc f) s m = go (says-loop l e a body h n) (trut
 no-roll : {l qs : List Query} {at start end : ℕ} {a : Stmt} {s m s₁ : List ℕ} {us : List Update} → Runs l (transaction at start end qs a) s m (rolls s₁) us → ⊥
 no-roll d = elim d [ ]
 
-says-attempt : (l qs : List Query) (at start end : ℕ) (a : Stmt) (body : ℕ → List ℕ → List ℕ → Result) → ((f : ℕ) (s m : List ℕ) → Says (watched s qs) a s m (body f s m))
+says-attempt : (l qs : List Query) (at start end : ℕ) (a : Stmt) (body : ℕ → List ℕ → List ℕ → Result) → Body qs a body
     → (n f : ℕ) (s m : List ℕ) → Says l (transaction at start end qs a) s m (attempt body n f s m)
 unfolding attempt after
 says-attempt l qs at start end a body h zero f s m = tt
 says-attempt l qs at start end a body h (suc n) zero s m = tt
 says-attempt l qs at start end a body h (suc n) (suc f) s m = go (says-attempt l qs at start end a body h n) (body f s m) (h f s m)
   where
-    again : (s₁ : List ℕ) (us : List Update) → Runs (watched s qs) a s m (rolls s₁) us → (r : Result) → Says l (transaction at start end qs a) s₁ m r → Says l (transaction at start end qs a) s m (after us r)
+    again : (s₁ : List ℕ) (us : List Update) → Runs qs a s m (rolls s₁) us → (r : Result) → Says l (transaction at start end qs a) s₁ m r → Says l (transaction at start end qs a) s m (after us r)
     again s₁ us d (done s₂ m₂ vs left) e = run-again d e
     again s₁ us d (rolled s₂ vs left) e = absurd (no-roll e)
     again s₁ us d (spent vs) e = tt
 
-    go : ((f : ℕ) (s m : List ℕ) → Says l (transaction at start end qs a) s m (attempt body n f s m)) → (r : Result) → Says (watched s qs) a s m r
+    go : ((f : ℕ) (s m : List ℕ) → Says l (transaction at start end qs a) s m (attempt body n f s m)) → (r : Result) → Says qs a s m r
         → Says l (transaction at start end qs a) s m (elim r [ done s₁ m₁ us f₁ ↦ done s₁ m₁ us f₁ | rolled s₁ us f₁ ↦ after us (attempt body n f₁ s₁ m) | spent us ↦ spent us ])
     go later (done s₁ m₁ us f₁) d = run-transaction d
     go later (rolled s₁ us f₁) d = again s₁ us d (attempt body n f₁ s₁ m) (later f₁ s₁ m)
@@ -155,9 +155,9 @@ execute-runs empty l f s m = run-empty
 execute-runs (block a b) l f s m = says-block l a b s m (execute a l f s m) _ (execute-runs a l f s m) (λ s₁ m₁ f₁. execute-runs b l f₁ s₁ m₁)
 execute-runs (if e a b) l zero s m = tt
 execute-runs (if e a b) l (suc f) s m = says-if l e a b s m _ _ (execute-runs a l f s m) (execute-runs b l f s m) (truth (evaluate m e)) refl
-execute-runs (while e a) l f s m = says-loop l e a (execute a l) (λ f₁ s₁ m₁. execute-runs a l f₁ s₁ m₁) f f s m
+execute-runs (while e a) l f s m = says-loop l e a (execute a l) (λ f₁ s₁ m₁. execute-runs a l f₁ s₁ m₁) _ f s m
 execute-runs (query at q a b) l zero s m = tt
 execute-runs (query at q a b) l (suc f) s m = says-query l at q a b s m _ _ (execute-runs a l f s m) (execute-runs b l f s m) (holds s q) refl
 execute-runs (update at ms) l zero s m = tt
 execute-runs (update at ms) l (suc f) s m = says-update l at ms f s m (broken l s (mutateAll s ms)) refl
-execute-runs (transaction at start end qs a) l f s m = says-attempt l qs at start end a (λ f₁ s₁ m₁. execute a (watched s₁ qs) f₁ s₁ m₁) (λ f₁ s₁ m₁. execute-runs a (watched s₁ qs) f₁ s₁ m₁) f f s m
+execute-runs (transaction at start end qs a) l f s m = says-attempt l qs at start end a (λ f₁ s₁ m₁. execute a qs f₁ s₁ m₁) (λ f₁ s₁ m₁. execute-runs a qs f₁ s₁ m₁) _ f s m

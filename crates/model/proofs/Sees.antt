@@ -1,8 +1,8 @@
 -- A group sees a set where their common part is not empty; so it sees more of a larger set, whoever it sees is in both, and an update without a gain shows it no meaning that it did not see before.
-use Prim.Native.Nat.{ℕ, zero, suc, _/_, _≤_}
+use Prim.Native.Nat.{ℕ, zero, suc, _/_, _^_, _≤_}
 use native.Mathlib.Nat.{div-one}
 use native.Mathlib.Omega.{arith}
-use mathlib.Core.Path.{_≡_, refl, sym}
+use mathlib.Core.Path.{_≡_, refl, sym, _∙_}
 use mathlib.Core.Logic.{_⊎_, ⊎-elim}
 use mathlib.Core.Bool.{Bool, true, false, not, false≢true}
 use lib.Dec.{eqb}
@@ -12,9 +12,9 @@ use Rattle.model.specs.Sets.{has}
 use Rattle.model.specs.Meaning.{meaning}
 use Rattle.model.specs.Run.{Update}
 use Rattle.model.specs.Claim.{sees, Gains}
-use Rattle.model.proofs.Sets.{has-zero, half-has, subset-le, has-and, and-has}
-use Rattle.model.proofs.Semantics.{Monotone}
-use Rattle.model.proofs.Truth.{true-or-false}
+use Rattle.model.proofs.Sets.{has-zero, half-has, subset-le, has-and, and-has, has-power, power-is}
+use Rattle.model.proofs.Meaning.{Monotone}
+use Rattle.model.proofs.Truth.{true-or-false, same-truth}
 
 pub clash : {A : Type 0} {b : Bool} → b ≡ true → b ≡ false → A
 clash e f = absurd (false≢true (rw e at (sym f)))
@@ -66,3 +66,9 @@ no-gain-hides group u none r h =
     (λ k. someone-sees group (meaning (u .before) r) i g k)
     (λ k. absurd (none record { role = r; principal = i; in-group = g; not-before = k; now-in = m }))
     (true-or-false (has (meaning (u .before) r) i))
+
+-- the group of one principal sees the sets in which they are
+pub sees-one : (principal set : ℕ) → sees (2 ^ principal) set ≡ has set principal
+sees-one principal set = same-truth (sees (2 ^ principal) set) (has set principal)
+    (λ t. let (i, g, m) = sees-someone (2 ^ principal) set t in let e : i ≡ principal = power-is principal i g in rw e at m)
+    (λ t. someone-sees (2 ^ principal) set principal (has-power principal principal ∙ eq-eqb principal principal refl) t)

@@ -9,7 +9,7 @@ use Rattle.model.specs.Syntax.{Atom, Query}
 use Rattle.model.specs.Order.{fixedSet, includes, AtMost, same, chain, asked, own, lies}
 use Rattle.model.specs.Atoms.{atomSet, holds}
 use Rattle.model.proofs.Sets.{within-has}
-use Rattle.model.proofs.Meaning.{meaning-watched}
+use Rattle.model.proofs.Meaning.{Monotone, meaning-watched}
 use Rattle.model.proofs.Truth.{backwards}
 use Rattle.model.proofs.Order.{JoinAtMost}
 
@@ -31,10 +31,6 @@ order-sound s ok known hold a c (chain {b = b} d e) p h = order-sound s ok known
 order-sound s ok known hold a b (asked {q = q} m) p h = within-has (atomSet s (q .second)) (atomSet s (q .first)) p (hold q m) h
 order-sound s ok known hold a b (own {side = side} {j = j}) p h = meaning-watched side s ok j p h
 order-sound s ok known hold a b (lies {f = f} {g = g} i) p h = within-has (fixedSet s g) (fixedSet s f) p i h
-
--- a way of seeing that sees more of a larger set
-abbrev pub Monotone : (ℕ → Bool) → Type 0
-Monotone see = (x y : ℕ) → ((p : ℕ) → has x p ≡ true → has y p ≡ true) → see x ≡ true → see y ≡ true
 
 -- O2: where a join is at most an atom that is seen, each atom of the join is seen; so one hidden atom in the join hides it
 module _ (see : ℕ → Bool) (grows : Monotone see) (s : List ℕ) (ok : Accepted s) (known : List Query) (hold : AllHold s known)

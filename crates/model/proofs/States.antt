@@ -13,7 +13,7 @@ use Rattle.model.specs.Program.{variables}
 use Rattle.model.specs.Flow.{label, exprLabel}
 use Rattle.model.specs.Value.{valueAt, setValue, evaluate}
 use Rattle.model.proofs.Bytes.{length-put, word-put-low, word-put-other}
-use Rattle.model.proofs.Fits.{ExprFits}
+use Rattle.model.specs.Fits.{ExprFits}
 use Rattle.model.proofs.Openness.{Setting, isOpen, Good, Near, near-refl, near-sym, near-trans, open-same, Open}
 use Rattle.model.proofs.Sees.{clash}
 

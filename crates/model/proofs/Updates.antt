@@ -1,19 +1,19 @@
 -- An accepted update keeps the policy accepted with its fixed part, does the same to a row that agrees in two policies, and leaves all rows but those that its transaction mutates; so if these are hidden it changes no open row (F3).
 use Prim.Native.Nat.{ℕ, _<_}
 use native.Mathlib.Omega.{arith}
-use native.Mathlib.Decide.{ℕ-discrete}
-use mathlib.Core.Path.{_≡_, refl, sym, _∙_}
+use mathlib.Core.Path.{_≡_, refl}
 use mathlib.Core.List.{List, [], _∷_, List·Memᴰ·head, List·Memᴰ·tail}
 use mathlib.Core.Bool.{true, false}
+use Rattle.model.specs.Limits.{roleLimit}
 use Rattle.model.specs.Sets.{has}
 use Rattle.model.specs.Policy.{Agree}
-use Rattle.model.specs.Mutation.{Kind, addMember, deleteMember, addTaken, deleteTaken, mutate, Mutation}
+use Rattle.model.specs.Mutation.{mutate, Mutation}
 use Rattle.model.specs.Run.{mutateAll}
 use Rattle.model.proofs.Accepted.{accepted-facts}
-use Rattle.model.proofs.Fits.{Each}
+use Rattle.model.specs.Fits.{Each}
 use Rattle.model.proofs.Fixed.{agree-refl, agree-trans}
 use Rattle.model.proofs.FlowParts.{Mutates, mutates-role, mutates-operand, mutates-accepted, mutates-fixed}
-use Rattle.model.proofs.Mutation.{mutate-other, mutate-row, membersAfter, takesAfter}
+use Rattle.model.proofs.Mutation.{mutate-other, mutate-agrees}
 use Rattle.model.proofs.Openness.{Setting, rowOpen, Good, Near}
 use Rattle.model.proofs.Sees.{clash}
 
@@ -26,36 +26,9 @@ module _ {S : Setting} {rs : ℕ} {m : Mutation} (h : Mutates (S .base) rs m) wh
   }
 
   mutation-same : {a b : List ℕ} → Good S a → Good S b → (r : ℕ) → Agree a b r → Agree (mutate a (m .kind) (m .role) (m .operand)) (mutate b (m .kind) (m .role) (m .operand)) r
-  mutation-same {a} {b} f g r e = go (ℕ-discrete r (m .role))
-    where
-      members-same : (k : Kind) (x : ℕ) → Agree a b (m .role) → membersAfter a k (m .role) x ≡ membersAfter b k (m .role) x
-      members-same addMember x e = rw (e .same-members)
-      members-same deleteMember x e = rw (e .same-members)
-      members-same addTaken x e = e .same-members
-      members-same deleteTaken x e = e .same-members
-
-      takes-same : (k : Kind) (x : ℕ) → Agree a b (m .role) → takesAfter a k (m .role) x ≡ takesAfter b k (m .role) x
-      takes-same addMember x e = e .same-takes
-      takes-same deleteMember x e = e .same-takes
-      takes-same addTaken x e = rw (e .same-takes)
-      takes-same deleteTaken x e = rw (e .same-takes)
-
-      go : Dec (r ≡ m .role) → Agree (mutate a (m .kind) (m .role) (m .operand)) (mutate b (m .kind) (m .role) (m .operand)) r
-      go (yes i) =
-          let u = mutate-row a (m .kind) (m .role) (m .operand) (f .accepted) (mutates-role h (f .same-base)) (mutates-operand h (f .same-base)) in
-          let v = mutate-row b (m .kind) (m .role) (m .operand) (g .accepted) (mutates-role h (g .same-base)) (mutates-operand h (g .same-base)) in
-          let d : Agree a b (m .role) = rw i at e in
-          rw i record {
-            same-members = u .0 ∙ members-same (m .kind) (m .operand) d ∙ sym (v .0);
-            same-takes = u .1 ∙ takes-same (m .kind) (m .operand) d ∙ sym (v .1);
-          }
-      go (no n) =
-          let u = mutate-other a (m .kind) (m .role) (m .operand) r n in
-          let v = mutate-other b (m .kind) (m .role) (m .operand) r n in
-          record {
-            same-members = sym (u .same-members) ∙ e .same-members ∙ v .same-members;
-            same-takes = sym (u .same-takes) ∙ e .same-takes ∙ v .same-takes;
-          }
+  mutation-same {a} {b} f g = mutate-agrees a b (m .kind) (m .role) (m .operand)
+      (f .accepted) (mutates-role h (f .same-base)) (mutates-operand h (f .same-base))
+      (g .accepted) (mutates-role h (g .same-base)) (mutates-operand h (g .same-base))
 
 -- a row that the transaction does not mutate ends unchanged
 update-other : {base : List ℕ} {rs : ℕ} (ms : List Mutation) (s : List ℕ) → Each (Mutates base rs) ms → (r : ℕ) → (has rs r ≡ true → ⊥) → Agree s (mutateAll s ms) r
@@ -88,7 +61,7 @@ module _ {S : Setting} {rs : ℕ} where
 
 -- the roles of a set have hidden rows
 abbrev pub RowsHidden : Setting → ℕ → Type 0
-RowsHidden S rs = (r : ℕ) → r < 64 → has rs r ≡ true → rowOpen S r ≡ false
+RowsHidden S rs = (r : ℕ) → r < roleLimit → has rs r ≡ true → rowOpen S r ≡ false
 
 -- F3: where all mutated rows are hidden, no open row changes
 pub hidden-update : {S : Setting} {rs : ℕ} (ms : List Mutation) {s : List ℕ} → Each (Mutates (S .base) rs) ms → Good S s → RowsHidden S rs → Near S s (mutateAll s ms)

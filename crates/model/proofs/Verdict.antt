@@ -2,12 +2,14 @@
 use Prim.Native.Nat.{ℕ}
 use mathlib.Core.Path.{_≡_, refl}
 use mathlib.Core.List.{List, [], _∷_}
-use Rattle.model.specs.Policy.{Side, reading, trust, watchers, mayHold, mayTake, Accepted, SameFixed}
+use Rattle.model.specs.Policy.{Side, reading, trust, Accepted, SameFixed}
 use Rattle.model.specs.Mutation.{Mutation, Kind, addMember, deleteMember, addTaken, deleteTaken, allowed}
 use Rattle.model.specs.Syntax.{Fixed, of, everyone, Atom, role, fixed, Query, Expr, Stmt, skip, assign, empty, block, if, while, query, update, transaction}
 use Rattle.model.specs.Program.{Read, got, bad}
 use Rattle.model.specs.Order.{fixedSet, includes, base, atMost, joinAtMost}
-use Rattle.model.specs.Flow.{Around, outside, inside, mayMutate, allAllowed, thenKnown, elseKnown, mayAssign, mayUpdate, flow, bodyVerdict, programVerdict}
+use Rattle.model.specs.Flow.{Around, outside, inside, allAllowed, mayAssign, mayUpdate, flow, bodyVerdict, programVerdict}
+use Rattle.model.proofs.Taking.{may-take-same}
+use Rattle.model.proofs.Fixed.{may-hold-same}
 use Rattle.model.proofs.Beyond.{watchers-same}
 
 module _ (a b : List ℕ) (oka : Accepted a) (okb : Accepted b) (same : SameFixed a b) where
@@ -38,19 +40,16 @@ module _ (a b : List ℕ) (oka : Accepted a) (okb : Accepted b) (same : SameFixe
   join-same known (x ∷ join) y = rw (test-same known x y, join-same known join y)
 
   allowed-same : (k : Kind) (r x : ℕ) → allowed a k r x ≡ allowed b k r x
-  unfolding allowed mayHold mayTake watchers
-  allowed-same addMember r x = rw (watchers-same a b oka okb same reading r, watchers-same a b oka okb same trust r)
+  unfolding allowed
+  allowed-same addMember r x = may-hold-same a b r x (λ side. watchers-same a b oka okb same side r)
   allowed-same deleteMember r x = refl
-  allowed-same addTaken r x = rw (watchers-same a b oka okb same reading r, watchers-same a b oka okb same reading x, watchers-same a b oka okb same trust r, watchers-same a b oka okb same trust x)
+  allowed-same addTaken r x = may-take-same a b r x (λ side. watchers-same a b oka okb same side r) (λ side. watchers-same a b oka okb same side x)
   allowed-same deleteTaken r x = refl
-
-  mutate-same : (m : Mutation) → mayMutate a m ≡ mayMutate b m
-  mutate-same m = cc (allowed-same (m .kind) (m .role) (m .operand))
 
   all-allowed-same : (ms : List Mutation) → allAllowed a ms ≡ allAllowed b ms
   unfolding allAllowed
   all-allowed-same [] = refl
-  all-allowed-same (m ∷ ms) = cc (mutate-same m, all-allowed-same ms)
+  all-allowed-same (m ∷ ms) = cc (allowed-same (m .kind) (m .role) (m .operand), all-allowed-same ms)
 
   module _ (p : List ℕ) where
     assign-same : (known : List Query) (context : Side → List Atom) (x : ℕ) (e : Expr) (side : Side) → mayAssign a p known context x e side ≡ mayAssign b p known context x e side
@@ -70,10 +69,10 @@ module _ (a b : List ℕ) (oka : Accepted a) (okb : Accepted b) (same : SameFixe
     flow-fixed around known context (if e c d) = rw (flow-fixed around known _ c, flow-fixed around known _ d)
     flow-fixed around known context (while e c) = flow-fixed around known _ c
     flow-fixed outside known context (query at q c d) = refl
-    flow-fixed (inside listed xs rs) known context (query at q c d) = rw (flow-fixed (inside listed xs rs) (thenKnown q known) _ c, flow-fixed (inside listed xs rs) (elseKnown q known) _ d)
+    flow-fixed (inside listed xs rs) known context (query at q c d) = rw (flow-fixed (inside listed xs rs) _ _ c, flow-fixed (inside listed xs rs) _ _ d)
     flow-fixed outside known context (update at ms) = refl
     flow-fixed (inside listed xs rs) known context (update at ms) = simp (all-allowed-same, update-same)
-    flow-fixed outside known context (transaction at start end qs c) = flow-fixed (inside qs _ _) [] context c
+    flow-fixed outside known context (transaction at start end qs c) = flow-fixed (inside qs _ _) known context c
     flow-fixed (inside listed xs rs) known context (transaction at start end qs c) = refl
 
     body-same : (body : Read Stmt) → bodyVerdict a p body ≡ bodyVerdict b p body

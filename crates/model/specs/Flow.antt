@@ -5,13 +5,14 @@ use mathlib.Core.Bool.{Bool, true, false, cond, _&&_, _||_}
 use lib.Dec.{eqb}
 use lib.ListN.{getD}
 use lib.Bits.{bitOr}
-use Rattle.model.specs.Number.{accepted, flowPlace, flowGrant, flowReading, flowTrust, Verdict, fine, refused, require, orElse}
+use Rattle.model.specs.Limits.{roleLimit, variableLimit}
+use Rattle.model.specs.Number.{accepted, flowTransaction, flowGrant, flowReading, flowTrust, Verdict, fine, refused, require, orElse}
 use Rattle.model.specs.Sets.{has, with}
 use Rattle.model.specs.Bytes.{byte}
 use Rattle.model.specs.Policy.{Side, reading, trust, principals, roles, policyNumber}
 use Rattle.model.specs.Mutation.{Mutation, allowed}
 use Rattle.model.specs.Syntax.{of, everyone, Atom, role, fixed, Query, sameQuery, Expr, constant, variable, binary, Stmt, skip, assign, empty, block, if, while, query, update, transaction}
-use Rattle.model.specs.Program.{Read, got, bad, readProgram}
+use Rattle.model.specs.Program.{Read, got, bad, labelByte, readProgram}
 use Rattle.model.specs.Order.{joinAtMost}
 
 -- a label byte as an atom: a role or everyone
@@ -20,8 +21,7 @@ labelAtom x = cond (eqb x 0xff) (fixed everyone) (role x)
 
 -- the label of variable x on a side: who may read it, who trusts it
 unfoldable pub label : List ℕ → Side → ℕ → Atom
-label p reading x = labelAtom (byte p (6 + 2 * x))
-label p trust x = labelAtom (byte p (7 + 2 * x))
+label p side x = labelAtom (labelByte p side x)
 
 -- an expression's label joins its variables' labels; constants add nothing
 unfoldable pub exprLabel : List ℕ → Side → Expr → List Atom
@@ -88,26 +88,14 @@ unfoldable pub listedIn : Query → List Query → Bool
 listedIn q [] = false
 listedIn q (k ∷ ks) = sameQuery q k || listedIn q ks
 
--- rule 16 for one mutation: the policy file allows what it adds
-abbrev pub mayMutate : List ℕ → Mutation → Bool
-mayMutate s m = allowed s (m .kind) (m .role) (m .operand)
-
 -- an update adds only what the policy file allows
 unfoldable pub allAllowed : List ℕ → List Mutation → Bool
 allAllowed s [] = true
-allAllowed s (m ∷ ms) = mayMutate s m && allAllowed s ms
+allAllowed s (m ∷ ms) = allowed s (m .kind) (m .role) (m .operand) && allAllowed s ms
 
 -- 17 unless the reading side is derivable, then 18 unless the trust side is
 abbrev pub bothSides : (Side → Bool) → ℕ → Verdict
 bothSides derivable at = require (derivable reading) flowReading at (require (derivable trust) flowTrust at fine)
-
--- a query is known in its first branch
-abbrev pub thenKnown : Query → List Query → List Query
-thenKnown q known = q ∷ known
-
--- and not in its else branch
-abbrev pub elseKnown : Query → List Query → List Query
-elseKnown q known = known
 
 -- a context is a join on each side; in an if's branches and a while's body the expression's label is joined to it
 abbrev pub underExpr : List ℕ → Expr → (Side → List Atom) → Side → List Atom
@@ -117,10 +105,6 @@ underExpr p e context side = exprLabel p side e ++ context side
 abbrev pub underQuery : Query → (Side → List Atom) → Side → List Atom
 underQuery q context side = queryLabel side q ++ context side
 
--- what must be at most the label of an assigned variable, besides the expression's label: the context
-abbrev pub assignJoin : (Side → List Atom) → Side → List Atom
-assignJoin context side = context side
-
 -- what must be at most all that an update is checked against: the context and the labels of all listed queries
 abbrev pub updateJoin : (Side → List Atom) → List Query → Side → List Atom
 updateJoin context listed side = context side ++ listLabel side listed
@@ -129,17 +113,17 @@ updateJoin context listed side = context side ++ listLabel side listed
 module _ (s p : List ℕ) where
   -- assign: context and expression label are at most the variable's label
   unfoldable pub mayAssign : List Query → (Side → List Atom) → ℕ → Expr → Side → Bool
-  mayAssign known context x e side =
-      joinAtMost s known (assignJoin context side) (label p side x) && joinAtMost s known (exprLabel p side e) (label p side x)
+  mayAssign known context x e side = joinAtMost s known (exprLabel p side e ++ context side) (label p side x)
 
   -- update: context and listed queries' labels are at most the label of every variable assigned anywhere in the
   -- transaction, and at most the viewers (trusters) of every role mutated anywhere in it
   unfoldable pub mayUpdate : List Query → (Side → List Atom) → List Query → ℕ → ℕ → Side → Bool
   mayUpdate known context listed variables mutatedRoles side =
-      eachIn variables (λ x. joinAtMost s known (updateJoin context listed side) (label p side x)) 64
-      && eachIn mutatedRoles (λ r. joinAtMost s known (updateJoin context listed side) (fixed (of side r))) 64
+      eachIn variables (λ x. joinAtMost s known (updateJoin context listed side) (label p side x)) variableLimit
+      && eachIn mutatedRoles (λ r. joinAtMost s known (updateJoin context listed side) (fixed (of side r))) roleLimit
 
-  -- 15 to 18 at the first statement in reading order, lowest number first
+  -- 15 to 18 at the first statement in reading order, lowest number first; the first branch of a query also knows the query,
+  -- and a transaction's body knows what is known around it
   unfoldable pub flow : Around → List Query → (Side → List Atom) → Stmt → Verdict
   flow around known context skip = fine
   flow around known context (assign at x e) = bothSides (mayAssign known context x e) at
@@ -148,16 +132,16 @@ module _ (s p : List ℕ) where
   flow around known context (if e a b) =
       orElse (flow around known (underExpr p e context) a) (flow around known (underExpr p e context) b)
   flow around known context (while e a) = flow around known (underExpr p e context) a
-  flow outside known context (query at q a b) = refused flowPlace at
+  flow outside known context (query at q a b) = refused flowTransaction at
   flow (inside listed xs rs) known context (query at q a b) =
-      require (listedIn q listed) flowPlace at
-      (orElse (flow (inside listed xs rs) (thenKnown q known) (underQuery q context) a)
-      (flow (inside listed xs rs) (elseKnown q known) (underQuery q context) b))
-  flow outside known context (update at ms) = refused flowPlace at
+      require (listedIn q listed) flowTransaction at
+      (orElse (flow (inside listed xs rs) (q ∷ known) (underQuery q context) a)
+      (flow (inside listed xs rs) known (underQuery q context) b))
+  flow outside known context (update at ms) = refused flowTransaction at
   flow (inside listed xs rs) known context (update at ms) =
       require (allAllowed s ms) flowGrant at (bothSides (mayUpdate known context listed xs rs) at)
-  flow outside known context (transaction at start end qs a) = flow (inside qs (assigned a) (mutated a)) [] context a
-  flow (inside listed xs rs) known context (transaction at start end qs a) = refused flowPlace at
+  flow outside known context (transaction at start end qs a) = flow (inside qs (assigned a) (mutated a)) known context a
+  flow (inside listed xs rs) known context (transaction at start end qs a) = refused flowTransaction at
 
   -- the flow verdict of a body that was read: no transaction around it, nothing known, empty contexts
   unfoldable pub bodyVerdict : Read Stmt → Verdict

@@ -1,3 +1,4 @@
+pub mod Limits
 pub mod Number
 pub mod Sets
 pub mod Bytes
@@ -6,10 +7,13 @@ pub mod Meaning
 pub mod Mutation
 pub mod Syntax
 pub mod Program
+pub mod Fits
 pub mod Order
 pub mod Flow
 pub mod Atoms
 pub mod Value
+pub mod Signed
 pub mod Run
+pub mod Spent
 pub mod Claim
 pub mod Calls

@@ -26,10 +26,10 @@ allowed s deleteTaken r x = true
 
 -- the bytes with row r's members, or its takes, replaced
 unfoldable pub putMembers : List ℕ → ℕ → ℕ → List ℕ
-putMembers s r v = put s (rowAt r + 10) 4 v
+putMembers s r v = put s (rowAt s r + 10) 4 v
 
 unfoldable pub putTakes : List ℕ → ℕ → ℕ → List ℕ
-putTakes s r v = put s (rowAt r + 14) 8 v
+putTakes s r v = put s (rowAt s r + 14) 8 v
 
 -- the policy after one mutation of row r
 unfoldable pub mutate : List ℕ → Kind → ℕ → ℕ → List ℕ

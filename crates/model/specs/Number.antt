@@ -56,8 +56,8 @@ abbrev pub programDepth : ℕ
 programDepth = 14
 
 -- 15: a query or update outside a transaction, an unlisted query, a nested transaction
-abbrev pub flowPlace : ℕ
-flowPlace = 15
+abbrev pub flowTransaction : ℕ
+flowTransaction = 15
 
 -- 16: an added member or taken role that the policy file does not allow
 abbrev pub flowGrant : ℕ

@@ -1,10 +1,11 @@
 -- The policy file of document 01: its fields by position, the number of any bytes, the fixed part, agreement on a role.
-use Prim.Native.Nat.{ℕ, _+_, _*_, _^_, _<_}
+use Prim.Native.Nat.{ℕ, _+_, _*_, _^_, _<_, _≤_}
 use mathlib.Core.Path.{_≡_}
 use mathlib.Core.List.{List, [], _∷_}
 use mathlib.Core.Bool.{Bool, true, cond, not, _&&_}
 use lib.Dec.{eqb, ltb, leb}
 use lib.ListN.{length}
+use Rattle.model.specs.Limits.{headBytes, fieldBytes, principalLimit, roleLimit}
 use Rattle.model.specs.Number.{accepted, policyLength, policyMark, policyRange, rowPrincipal, rowOwner, rowGrants, unless, first, firstBelow}
 use Rattle.model.specs.Sets.{has, within}
 use Rattle.model.specs.Bytes.{byte, word, startsWith}
@@ -12,6 +13,10 @@ use Rattle.model.specs.Bytes.{byte, word, startsWith}
 -- the mark RXT and version 1 in 16 bits
 abbrev pub policyHead : List ℕ
 policyHead = 0x52 ∷ 0x58 ∷ 0x54 ∷ 1 ∷ 0 ∷ []
+
+-- the head has the mark, and a version that there is
+unfoldable pub hasMark : List ℕ → Bool
+hasMark s = startsWith s policyHead
 
 abbrev pub version : List ℕ → ℕ
 version s = word s 3 2
@@ -24,27 +29,39 @@ principals s = byte s 5
 abbrev pub roles : List ℕ → ℕ
 roles s = byte s 6
 
--- where row i begins: rows of 22 bytes follow the 7 bytes of the head
-abbrev pub rowAt : ℕ → ℕ
-rowAt i = 7 + 22 * i
+-- how wide a row is
+unfoldable pub rowBytes : List ℕ → ℕ
+rowBytes s = fieldBytes
+
+-- where row i begins: the rows follow the head
+unfoldable pub rowAt : List ℕ → ℕ → ℕ
+rowAt s i = headBytes + rowBytes s * i
+
+-- how long the file is: it ends with its last row
+unfoldable pub policyBytes : List ℕ → ℕ
+policyBytes s = rowAt s (roles s)
+
+-- row i is there: it lies within the bytes
+unfoldable pub HasRow : List ℕ → ℕ → Type 0
+HasRow s i = rowAt s i + rowBytes s ≤ length s
 
 abbrev pub owner : List ℕ → ℕ → ℕ
-owner s i = byte s (rowAt i)
+owner s i = byte s (rowAt s i)
 
 abbrev pub name : List ℕ → ℕ → ℕ
-name s i = byte s (rowAt i + 1)
+name s i = byte s (rowAt s i + 1)
 
 unfoldable pub viewers : List ℕ → ℕ → ℕ
-viewers s i = word s (rowAt i + 2) 4
+viewers s i = word s (rowAt s i + 2) 4
 
 unfoldable pub trusters : List ℕ → ℕ → ℕ
-trusters s i = word s (rowAt i + 6) 4
+trusters s i = word s (rowAt s i + 6) 4
 
 unfoldable pub members : List ℕ → ℕ → ℕ
-members s i = word s (rowAt i + 10) 4
+members s i = word s (rowAt s i + 10) 4
 
 unfoldable pub takes : List ℕ → ℕ → ℕ
-takes s i = word s (rowAt i + 14) 8
+takes s i = word s (rowAt s i + 14) 8
 
 -- the two sides of document 01: who may read, who trusts
 pub data Side : Type 0 where
@@ -66,12 +83,16 @@ mayHold s i p = has (viewers s i) p && has (trusters s i) p
 -- the head: under 7 bytes, mark or version, ranges, then the length
 unfoldable pub headNumber : List ℕ → ℕ
 headNumber s =
-    unless (leb 7 (length s)) policyLength
-    (unless (startsWith s policyHead) policyMark
+    unless (leb headBytes (length s)) policyLength
+    (unless (hasMark s) policyMark
     (unless (leb 1 (principals s)) policyRange
-    (unless (leb (principals s) 32) policyRange
-    (unless (leb (roles s) 64) policyRange
-    (unless (eqb (length s) (rowAt (roles s))) policyLength accepted)))))
+    (unless (leb (principals s) principalLimit) policyRange
+    (unless (leb (roles s) roleLimit) policyRange
+    (unless (eqb (length s) (policyBytes s)) policyLength accepted)))))
+
+-- a head that is right, the file's length with it
+abbrev pub AcceptedHead : List ℕ → Type 0
+AcceptedHead s = headNumber s ≡ accepted
 
 -- row i names only principals that there are
 unfoldable pub principalNumber : List ℕ → ℕ → ℕ

@@ -4,9 +4,10 @@ use mathlib.Core.List.{List, [], _∷_}
 use mathlib.Core.Bool.{cond, _||_}
 use lib.Dec.{eqb, ltb, leb}
 use lib.ListN.{length}
+use Rattle.model.specs.Limits.{programBytes, variableLimit, statementDepth, expressionDepth, listLimit}
 use Rattle.model.specs.Number.{programLength, programMark, programCode, programRange, programDepth}
 use Rattle.model.specs.Bytes.{byte, word}
-use Rattle.model.specs.Policy.{reading, trust}
+use Rattle.model.specs.Policy.{Side, reading, trust}
 use Rattle.model.specs.Mutation.{Kind, addMember, deleteMember, addTaken, deleteTaken, Mutation}
 use Rattle.model.specs.Syntax.{of, everyone, Atom, role, fixed, Query, Operator, sum, difference, product, quotient, less, equal, Expr, constant, variable, binary, Stmt, skip, assign, empty, block, if, while, query, update, transaction}
 
@@ -41,23 +42,6 @@ readMany sub (suc n) at = andThen (sub at) (λ x mid. andThen (readMany sub n mi
 -- the mark RXP and version 1 in 16 bits
 abbrev pub programHead : List ℕ
 programHead = 0x52 ∷ 0x58 ∷ 0x50 ∷ 1 ∷ 0 ∷ []
-
--- how large a program may be, how many variables it has, how deep statements and expressions may go
-abbrev pub programBytes : ℕ
-programBytes = 4096
-
-abbrev pub variableLimit : ℕ
-variableLimit = 64
-
-abbrev pub statementDepth : ℕ
-statementDepth = 32
-
-abbrev pub expressionDepth : ℕ
-expressionDepth = 16
-
--- how many mutations an update has, and how many queries a transaction lists
-abbrev pub listLimit : ℕ
-listLimit = 16
 
 -- an atom's byte: C0–FE is none, and its role is below R
 unfoldable pub atomAt : ℕ → ℕ → ℕ → ℕ → Read Atom
@@ -176,6 +160,17 @@ readStmt s P R vars (suc depth) at = andThen (readByte s at) (stmtAt s P R vars 
 -- V and its label bytes follow the mark
 abbrev pub variables : List ℕ → ℕ
 variables s = byte s 5
+
+-- where the label of variable x stands on a side, its byte, and where the body starts
+abbrev pub labelAt : Side → ℕ → ℕ
+labelAt reading x = 6 + 2 * x
+labelAt trust x = 7 + 2 * x
+
+abbrev pub labelByte : List ℕ → Side → ℕ → ℕ
+labelByte s side x = byte s (labelAt side x)
+
+abbrev pub bodyAt : ℕ → ℕ
+bodyAt vars = 6 + 2 * vars
 
 -- one statement and nothing more
 unfoldable pub readBody : List ℕ → ℕ → ℕ → ℕ → ℕ → Read Stmt
