@@ -1,71 +1,78 @@
 -- A law for each return of check.rt: the tests that led there say which number the definition gives.
 use mathlib.Core.Path.{_≡_, refl, sym, _∙_}
-use Prim.Native.Nat.{ℕ, zero, suc, _+_, _*_, _-_, _^_, _<_, _≤_}
+use Prim.Native.Nat.{ℕ, zero, suc, _+_, _-_, _^_, _<_, _≤_}
 use mathlib.Core.List.{List}
 use mathlib.Core.Logic.{⊎-elim}
 use mathlib.Core.Bool.{Bool, true, false, _&&_, true≢false}
 use native.Mathlib.Omega.{arith}
 use native.Mathlib.Numerals.{add-one}
-use lib.Dec.{eqb, ltb}
+use lib.Dec.{ltb}
 use lib.Bits.{bitOr}
 use lib.ListN.{length}
-use borrow.Author.Tests.{lt-ltb, le-ltb, le-leb, lt-leb, eq-eqb, ne-eqb, ltb-true, eqb-true, not-true, not-false}
+use borrow.Author.Tests.{lt-ltb, le-ltb, le-leb, lt-leb, eq-eqb, ne-eqb, ltb-true, not-true, not-false}
+use Rattle.model.specs.Limits.{headBytes, principalLimit, roleLimit}
 use Rattle.model.specs.Number.{unless, first, firstBelow}
 use Rattle.model.specs.Sets.{has, within}
-use Rattle.model.specs.Bytes.{startsWith}
-use Rattle.model.specs.Policy.{policyHead, principals, roles, rowAt, owner, viewers, trusters, members, takes, mayTake, mayHold, headNumber, principalNumber, ownerNumber, pairNumber, rowNumber, takenNumber, takesNumber, grantsNumber, policyNumber}
+use Rattle.model.specs.Policy.{hasMark, principals, roles, policyBytes, owner, viewers, trusters, members, takes, mayTake, mayHold, AcceptedHead, headNumber, principalNumber, ownerNumber, pairNumber, rowNumber, takenNumber, takesNumber, grantsNumber, policyNumber}
 use Rattle.model.proofs.Number.{zero-below}
-use Rattle.model.proofs.Truth.{both}
 use Rattle.model.proofs.Sets.{has-zero, or-has, within-has, has-below}
-use Rattle.model.proofs.Accepted.{head-zero, grants-zero, zero-taken}
+use Rattle.model.proofs.Accepted.{grants-zero, zero-taken}
+use Rattle.model.proofs.Taking.{may-take-trans}
 use Rattle.policy.specs.Takable.{Takable}
+use Rattle.policy.proofs.RowLaws.{head-inside}
 
--- the head
+-- the head: p and n are what was read of it, and l is the length that it asks for
 module _ (s : List ℕ) where
-  pub head-short : length s < 7 → 1 ≡ headNumber s
+  pub head-short : length s < headBytes → 1 ≡ headNumber s
   unfolding headNumber
   head-short h = simp (lt-leb _ _ h)
 
-  module _ (long : 7 ≤ length s) (b : Bool) (e : b ≡ startsWith s policyHead) where
+  module _ (long : headBytes ≤ length s) (b : Bool) (e : b ≡ hasMark s) where
     pub head-mark : b ≡ false → 2 ≡ headNumber s
     unfolding headNumber
     head-mark f = simp (le-leb _ _ long, sym e ∙ f)
 
-    module _ (t : b ≡ true) where
-      pub head-none : principals s < 1 → 3 ≡ headNumber s
+    module _ (t : b ≡ true) (p : ℕ) (q : p ≡ principals s) where
+      pub head-none : p < 1 → 3 ≡ headNumber s
       unfolding headNumber
-      head-none h = simp (le-leb _ _ long, sym e ∙ t, lt-leb _ _ h)
+      head-none h = simp (le-leb _ _ long, sym e ∙ t, lt-leb _ _ (rw q at h))
 
-      module _ (some : 1 ≤ principals s) where
-        pub head-principals : 32 < principals s → 3 ≡ headNumber s
+      module _ (some : 1 ≤ p) where
+        pub head-principals : principalLimit < p → 3 ≡ headNumber s
         unfolding headNumber
-        head-principals h = simp (le-leb _ _ long, sym e ∙ t, le-leb _ _ some, lt-leb _ _ h)
+        head-principals h = simp (le-leb _ _ long, sym e ∙ t, le-leb _ _ (rw q at some), lt-leb _ _ (rw q at h))
 
-        module _ (fit : principals s ≤ 32) where
-          pub head-roles : 64 < roles s → 3 ≡ headNumber s
+        module _ (fit : p ≤ principalLimit) (n : ℕ) (i : n ≡ roles s) where
+          pub head-roles : roleLimit < n → 3 ≡ headNumber s
           unfolding headNumber
-          head-roles h = simp (le-leb _ _ long, sym e ∙ t, le-leb _ _ some, le-leb _ _ fit, lt-leb _ _ h)
+          head-roles h = simp (le-leb _ _ long, sym e ∙ t, le-leb _ _ (rw q at some), le-leb _ _ (rw q at fit), lt-leb _ _ (rw i at h))
 
-          module _ (few : roles s ≤ 64) (n : ℕ) (i : n ≡ roles s) where
-            pub head-length : (length s ≡ 7 + 22 * n → ⊥) → 1 ≡ headNumber s
+          module _ (few : n ≤ roleLimit) (l : ℕ) (k : l ≡ policyBytes s) where
+            pub head-length : (length s ≡ l → ⊥) → 1 ≡ headNumber s
             unfolding headNumber
-            head-length h = let g : length s ≡ 7 + 22 * roles s → ⊥ = rw i at h in simp (le-leb _ _ long, sym e ∙ t, le-leb _ _ some, le-leb _ _ fit, le-leb _ _ few, ne-eqb _ _ g)
+            head-length h = simp (le-leb _ _ long, sym e ∙ t, le-leb _ _ (rw q at some), le-leb _ _ (rw q at fit), le-leb _ _ (rw i at few), ne-eqb _ _ (rw k at h))
 
-            pub head-right : length s ≡ 7 + 22 * n → 0 ≡ headNumber s
+            pub head-right : length s ≡ l → 0 ≡ headNumber s
             unfolding headNumber
-            head-right h = let g : length s ≡ 7 + 22 * roles s = rw i at h in simp (le-leb _ _ long, sym e ∙ t, le-leb _ _ some, le-leb _ _ fit, le-leb _ _ few, eq-eqb _ _ g)
+            head-right h = simp (le-leb _ _ long, sym e ∙ t, le-leb _ _ (rw q at some), le-leb _ _ (rw q at fit), le-leb _ _ (rw i at few), eq-eqb _ _ (rw k at h))
 
 pub ruleset heads = (head-short, head-mark, head-none, head-principals, head-roles, head-length, head-right, not-true, not-false)
 
--- 4 of row i: the bound n is P, and v, t, m are what was read of the row
-module _ (s : List ℕ) (i : ℕ) where
-  pub owner-large : principals s ≤ owner s i → 4 ≡ principalNumber s i
+-- 4 of row i: c and n are P, and o, v, w, m are what was read of the row
+module _ (s : List ℕ) (i c o : ℕ) (p : c ≡ principals s) (h : o ≡ owner s i) where
+  pub owner-large : c ≤ o → 4 ≡ principalNumber s i
   unfolding principalNumber
-  owner-large h = simp (le-ltb _ _ h)
+  owner-large l = simp (le-ltb _ _ (rw (p, h) at l))
 
-  module _ (small : owner s i < principals s) (n v : ℕ) (a : Bool) (p : n ≡ principals s) (q : v ≡ viewers s i) (d : a ≡ ltb v (2 ^ n)) where
+  module _ (l : o < c) (n v : ℕ) (a : Bool) (y : n ≡ c) (q : v ≡ viewers s i) (d : a ≡ ltb v (2 ^ n)) where
+    small : owner s i < principals s
+    small = rw (p, h) at l
+
+    bound : n ≡ principals s
+    bound = y ∙ p
+
     seen : ltb (viewers s i) (2 ^ principals s) ≡ a
-    seen = rw (← p, ← q) (sym d)
+    seen = rw (← bound, ← q) (sym d)
 
     pub viewers-large : a ≡ false → 4 ≡ principalNumber s i
     unfolding principalNumber
@@ -73,7 +80,7 @@ module _ (s : List ℕ) (i : ℕ) where
 
     module _ (t : a ≡ true) (w : ℕ) (b : Bool) (j : w ≡ trusters s i) (e : b ≡ ltb w (2 ^ n)) where
       trusted : ltb (trusters s i) (2 ^ principals s) ≡ b
-      trusted = rw (← p, ← j) (sym e)
+      trusted = rw (← bound, ← j) (sym e)
 
       pub trusters-large : b ≡ false → 4 ≡ principalNumber s i
       unfolding principalNumber
@@ -81,7 +88,7 @@ module _ (s : List ℕ) (i : ℕ) where
 
       module _ (u : b ≡ true) (m : ℕ) (x : Bool) (k : m ≡ members s i) (g : x ≡ ltb m (2 ^ n)) where
         held : ltb (members s i) (2 ^ principals s) ≡ x
-        held = rw (← p, ← k) (sym g)
+        held = rw (← bound, ← k) (sym g)
 
         pub members-large : x ≡ false → 4 ≡ principalNumber s i
         unfolding principalNumber
@@ -102,12 +109,15 @@ owner-holds s i = go (has (viewers s i) (owner s i)) (has (trusters s i) (owner 
     go true b = refl
     go false b = refl
 
-module _ (s : List ℕ) (i o : ℕ) (b : Bool) (p : o ≡ owner s i) (d : b ≡ mayHold s i o) where
+module _ (s : List ℕ) (i o w : ℕ) (b : Bool) (p : o ≡ owner s i) (q : w ≡ o) (d : b ≡ mayHold s i w) where
+  is : mayHold s i (owner s i) ≡ b
+  is = rw (← p, ← q) (sym d)
+
   pub owner-right : b ≡ true → 0 ≡ ownerNumber s i
-  owner-right f = let g : mayHold s i (owner s i) ≡ true = rw (← p) (sym d ∙ f) in rw g at (owner-holds s i)
+  owner-right f = rw (is ∙ f) at (owner-holds s i)
 
   pub owner-wrong : b ≡ false → 5 ≡ ownerNumber s i
-  owner-wrong f = let g : mayHold s i (owner s i) ≡ false = rw (← p) (sym d ∙ f) in rw g at (owner-holds s i)
+  owner-wrong f = rw (is ∙ f) at (owner-holds s i)
 
 pub ruleset owner-laws = (owner-right, owner-wrong)
 
@@ -184,7 +194,7 @@ module _ (s : List ℕ) (i m v : ℕ) (a : Bool) (p : m ≡ members s i) (q : v 
 
 pub ruleset grants-laws = (members-hidden, members-distrusted, members-right, not-true, not-false)
 
--- 6 of row i: the roles that it takes, of which some are known to be such as it may
+-- 6 of row i: the roles that it takes, of which all may be among those takable
 module _ (s : List ℕ) (i n row : ℕ) (c : Bool) (x : row ≡ takes s i) (y : c ≡ ltb row (2 ^ n)) where
   pub takes-large : c ≡ false → 6 ≡ takesNumber s i n
   unfolding takesNumber
@@ -197,33 +207,30 @@ module _ (s : List ℕ) (i n row : ℕ) (c : Bool) (x : row ≡ takes s i) (y : 
   unfolding takesNumber
   takes-each f r z = rw (← x) (simp (sym y ∙ f) z)
 
-  pub takes-known : c ≡ true → (known : ℕ) (b : Bool) → Takable s i known → b ≡ within row known → b ≡ true → 0 ≡ takesNumber s i n
+  pub takes-takable : c ≡ true → (takable : ℕ) (b : Bool) → Takable s i takable → b ≡ within row takable → b ≡ true → 0 ≡ takesNumber s i n
   unfolding Takable
-  takes-known f known b may w h = takes-each f 0
-      (sym (zero-below (takenNumber s i) n (λ j l. zero-taken s i j (λ g. may j (within-has row known j (sym w ∙ h) (rw (← x) at g))))))
+  takes-takable f takable b may w h = takes-each f 0
+      (sym (zero-below (takenNumber s i) n (λ j l. zero-taken s i j (λ g. may j (within-has row takable j (sym w ∙ h) (rw (← x) at g))))))
 
-pub ruleset row-takes = (takes-large, takes-small, takes-each, takes-known, not-true, not-false)
+pub ruleset row-takes = (takes-large, takes-small, takes-each, takes-takable, not-true, not-false)
 
--- what is known of one row, and of the next
+-- what one row may take in, and the next
 module _ (s : List ℕ) (i : ℕ) where
-  pub known-none : Takable s i 0
+  pub takable-none : Takable s i 0
   unfolding Takable
-  known-none j h = absurd (true≢false (sym h ∙ has-zero j))
+  takable-none j h = absurd (true≢false (sym h ∙ has-zero j))
 
-  pub known-same : (k known : ℕ) (b : Bool) → Takable s k known → b ≡ mayTake s i k → b ≡ true → Takable s i known
-  unfolding Takable mayTake
-  known-same k known b may e h j g =
-      let (v, t) = both (eqb (viewers s i) (viewers s k)) (eqb (trusters s i) (trusters s k)) (sym e ∙ h) in
-      let (w, u) = both (eqb (viewers s k) (viewers s j)) (eqb (trusters s k) (trusters s j)) (may j g) in
-      simp (eqb-true (viewers s i) (viewers s k) v, eqb-true (trusters s i) (trusters s k) t, w, u)
-
-  pub known-more : (known row k : ℕ) → Takable s i known → row ≡ takes s i → k ≡ grantsNumber s i → k ≡ 0 → Takable s i (bitOr known row)
+  pub takable-same : (k takable : ℕ) (b : Bool) → Takable s k takable → b ≡ mayTake s i k → b ≡ true → Takable s i takable
   unfolding Takable
-  known-more known row k may x e z j h =
+  takable-same k takable b may e h j g = may-take-trans s i k j (sym e ∙ h) (may j g)
+
+  pub takable-more : (takable row k : ℕ) → Takable s i takable → row ≡ takes s i → k ≡ grantsNumber s i → k ≡ 0 → Takable s i (bitOr takable row)
+  unfolding Takable
+  takable-more takable row k may x e z j h =
       let (v, t, fits, allowed) = grants-zero s i (sym e ∙ z) in
-      ⊎-elim (λ g. may j g) (λ g. let m : has (takes s i) j ≡ true = rw x at g in allowed j (has-below (roles s) (takes s i) j fits m) m) (or-has known row j h)
+      ⊎-elim (λ g. may j g) (λ g. let m : has (takes s i) j ≡ true = rw x at g in allowed j (has-below (roles s) (takes s i) j fits m) m) (or-has takable row j h)
 
-pub ruleset known-laws = (known-none, known-same, known-more)
+pub ruleset takable-laws = (takable-none, takable-same, takable-more)
 
 -- the whole policy
 module _ (s : List ℕ) (a : ℕ) (p : a ≡ headNumber s) where
@@ -232,20 +239,14 @@ module _ (s : List ℕ) (a : ℕ) (p : a ≡ headNumber s) where
   policy-head h = first-is _ _ a (sym p) h
 
   module _ (z : a ≡ 0) where
-    -- a right head has the length that its roles ask for
-    right-length : length s ≡ rowAt (roles s)
-    right-length = head-zero s (sym p ∙ z) .4
+    pub head-accepted : AcceptedHead s
+    head-accepted = sym p ∙ z
 
-    pub head-seven : 6 < length s
-    head-seven = omega (arith, right-length)
+    -- R was read as m, and is wider as n
+    module _ (m n : ℕ) (d : m ≡ roles s) (f : n ≡ m) (b : ℕ) (q : b ≡ firstBelow (rowNumber s) n) where
+      e : n ≡ roles s
+      e = f ∙ d
 
-    pub head-few : principals s ≤ 32
-    head-few = head-zero s (sym p ∙ z) .2
-
-    pub head-rows : (n : ℕ) → n ≡ roles s → rowAt n ≤ length s
-    head-rows n e = omega (arith, right-length)
-
-    module _ (n : ℕ) (e : n ≡ roles s) (b : ℕ) (q : b ≡ firstBelow (rowNumber s) n) where
       pub policy-rows : (b ≡ 0 → ⊥) → b ≡ policyNumber s
       unfolding policyNumber
       policy-rows h = first-not _ _ b (sym p ∙ z) (sym (first-is _ _ b (sym (rw e at q)) h))
@@ -254,4 +255,4 @@ module _ (s : List ℕ) (a : ℕ) (p : a ≡ headNumber s) where
       unfolding policyNumber
       policy-grants y k g = first-not _ _ k (sym p ∙ z) (sym (first-not _ _ k (sym (rw e at q) ∙ y) (sym (rw e at g))))
 
-pub ruleset policy-laws = (policy-head, head-seven, head-few, head-rows, policy-rows, policy-grants)
+pub ruleset policy-laws = (policy-head, head-accepted, head-inside, policy-rows, policy-grants)

@@ -1,5 +1,3 @@
-pub mod SetLaws
-mod ByteLaws
 mod RowLaws
 mod CheckLaws
 mod TakesLaws

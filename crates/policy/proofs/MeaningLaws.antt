@@ -10,13 +10,15 @@ use lib.Bits.{bitOr, or-zero-r}
 use lib.ListN.{length, getD, set, take}
 use lib.Seq.{set-getD, take-suc-set, take-all, length-take-le}
 use borrow.Author.Tests.{lt-ltb, le-ltb, eq-eqb, ne-eqb}
+use Rattle.model.specs.Limits.{headBytes, roleLimit}
 use Rattle.model.specs.Sets.{has, without}
-use Rattle.model.specs.Policy.{roles, rowAt, members, takes, Accepted, policyNumber}
+use Rattle.model.specs.Policy.{roles, HasRow, members, takes, Accepted, policyNumber}
 use Rattle.model.specs.Meaning.{gather, grown, steps, rounds, column, meanings, meaning, answer, meaningOf}
-use Rattle.model.proofs.Accepted.{accepted-facts}
+use Rattle.model.proofs.Accepted.{accepted-head, accepted-facts}
 use Rattle.model.proofs.Sets.{has-zero, has-or-l, has-or-r, or-has, same-sets, or-assoc, has-below, has-without, without-has, without-le}
 use Rattle.model.proofs.Least.{In, gather-has, has-gather, length-steps, column-length, column-at}
-use Rattle.policy.proofs.SetLaws.{next-without}
+use Rattle.shared.proofs.SetLaws.{next-without}
+use Rattle.policy.proofs.RowLaws.{row-of}
 use Rattle.policy.proofs.TakesLaws.{same-or, smaller}
 use Rattle.policy.specs.Rounds.{Still, Fitting}
 
@@ -142,8 +144,8 @@ module _ (f : ℕ → ℕ) where
 
 -- an accepted policy's rows are there, and take only roles that there are
 module _ (s : List ℕ) (ok : Accepted s) where
-  pub row-there : (n i : ℕ) → n ≡ roles s → i < n → rowAt i + 22 ≤ length s
-  row-there n i l h = omega (arith, accepted-facts s ok .long)
+  pub row-there : (n i : ℕ) → n ≡ roles s → i < n → HasRow s i
+  row-there = row-of s (accepted-head s ok)
 
   pub takes-fitting : (t : List ℕ) → t ≡ column (takes s) (roles s) → Fitting t
   unfolding Fitting
@@ -175,11 +177,11 @@ set-there s w r e l =
     let n = rounds-length (column (takes s) (roles s)) (column (members s) (roles s)) (column-length (members s) (roles s) ∙ sym c) (roles s) in
     omega (arith, ap length e)
 
--- the part of 64 words that a policy's roles need
-pub part-count : (w : List ℕ) (n : ℕ) → length w ≡ 64 → n ≤ 64 → n ≡ length (take n w)
+-- the part that a policy's roles need, of words for as many as there may be
+pub part-count : (w : List ℕ) (n : ℕ) → length w ≡ roleLimit → n ≤ roleLimit → n ≡ length (take n w)
 part-count w n l h = sym (length-take-le n w (omega arith))
 
-pub part-length : (w : List ℕ) (n k : ℕ) → length w ≡ 64 → n ≤ 64 → n ≡ k → length (take n w) ≡ k
+pub part-length : (w : List ℕ) (n k : ℕ) → length w ≡ roleLimit → n ≤ roleLimit → n ≡ k → length (take n w) ≡ k
 part-length w n k l h e = sym (part-count w n l h) ∙ e
 
 pub ruleset set-laws = (set-is, set-there, part-count, part-length)
@@ -191,20 +193,17 @@ module _ (s : List ℕ) (r k : ℕ) (p : k ≡ policyNumber s) where
   asked-refused h = let g : policyNumber s ≡ 0 → ⊥ = λ e. h (p ∙ e) in rw p (simp (ne-eqb _ _ g))
 
   module _ (z : k ≡ 0) where
-    -- an accepted policy has all its rows, 64 at the most
-    long : length s ≡ rowAt (roles s)
-    long = accepted-facts s (sym p ∙ z) .long
-
-    pub asked-seven : 6 < length s
-    asked-seven = omega (arith, long)
-
     pub asked-accepted : Accepted s
     asked-accepted = sym p ∙ z
 
-    pub asked-few : (n : ℕ) → n ≡ roles s → n ≤ 64
-    asked-few n e = omega (arith, accepted-facts s (sym p ∙ z) .roles-fit)
+    pub asked-head : headBytes ≤ length s
+    asked-head = accepted-facts s asked-accepted .headed
 
-    module _ (n : ℕ) (e : n ≡ roles s) where
+    -- R was read as m, and is wider as n
+    module _ (m n : ℕ) (d : m ≡ roles s) (e : n ≡ m) where
+      pub asked-few : n ≤ roleLimit
+      asked-few = omega (arith, accepted-facts s asked-accepted .roles-fit)
+
       pub asked-none : n ≤ r → answer 7 0 ≡ meaningOf s r
       unfolding meaningOf
       asked-none h = let l : roles s ≤ r = omega arith in simp (eq-eqb _ _ (sym p ∙ z), le-ltb _ _ l)
@@ -213,4 +212,4 @@ module _ (s : List ℕ) (r k : ℕ) (p : k ≡ policyNumber s) where
       unfolding meaningOf
       asked-found h x y = let l : r < roles s = omega arith in rw y (simp (eq-eqb _ _ (sym p ∙ z), lt-ltb _ _ l))
 
-pub ruleset asked = (asked-refused, asked-seven, asked-accepted, asked-few, asked-none, asked-found)
+pub ruleset asked = (asked-refused, asked-accepted, asked-head, asked-few, asked-none, asked-found)

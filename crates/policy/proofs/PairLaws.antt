@@ -1,7 +1,7 @@
 -- Rule 5's pairs: after i rows the marks are those of the first i rows' pairs, so a pair that is marked stands in an earlier row.
-use mathlib.Core.Path.{_≡_, sym, ap, _∙_}
+use mathlib.Core.Path.{_≡_, refl, sym, ap, _∙_}
 use mathlib.Core.Logic.{_⊎_, inl, inr, ⊎-elim}
-use Prim.Native.Nat.{ℕ, _+_, _*_, _/_, _%_, _^_, _<_, _≤_}
+use Prim.Native.Nat.{ℕ, _+_, _*_, _/_, _%_, _<_, _≤_}
 use mathlib.Core.List.{List}
 use mathlib.Core.Bool.{Bool, true, false, not, _&&_, true≢false}
 use lib.Dec.{eqb, ltb}
@@ -11,15 +11,18 @@ use lib.Bits.{bitOr}
 use lib.ListN.{length, getD, set, replicate, length-set, length-replicate, getD-replicate, List·getD-eq-default}
 use lib.Seq.{getD-set-same, getD-set-other}
 use native.Mathlib.Decide.{decLt}
+use Rattle.model.specs.Limits.{principalLimit}
 use Rattle.model.specs.Number.{firstBelow}
 use Rattle.model.specs.Sets.{has, with}
-use Rattle.model.specs.Policy.{principals, owner, name, principalNumber, pairNumber}
+use Rattle.model.specs.Policy.{principals, owner, name, AcceptedHead, principalNumber, pairNumber}
 use Rattle.model.proofs.Below.{last-or}
 use Rattle.model.proofs.Number.{unless-zero, unless-or, zero-below, one-number}
 use Rattle.model.proofs.Sets.{has-zero, has-with-same, has-with, with-has}
 use Rattle.model.proofs.Accepted.{zero-pair}
 use Rattle.policy.specs.Pairs.{pair, marked, mark, Seen, SeenAfter}
-use Rattle.policy.proofs.SetLaws.{shifted}
+use Rattle.shared.specs.Words.{single}
+use Rattle.shared.proofs.SetLaws.{single-is}
+use Rattle.policy.proofs.RowLaws.{principals-few}
 use Rattle.policy.proofs.TakesLaws.{same-or}
 
 -- a number's bit in its word
@@ -28,9 +31,9 @@ module _ (t : List ℕ) (c : ℕ) where
   unfolding marked
   marked-is b e = e
 
-  pub mark-is : set t (c / 64) (bitOr (getD t (c / 64) 0) (1 * 2 ^ (c % 64) % 2 ^ 64)) ≡ mark t c
+  pub mark-is : (w : ℕ) → w ≡ single (c % 64) → set t (c / 64) (bitOr (getD t (c / 64) 0) w) ≡ mark t c
   unfolding mark
-  mark-is = rw (shifted (c % 64) (omega arith))
+  mark-is w e = rw (e, single-is (c % 64) (omega arith))
 
   pub length-mark : length (mark t c) ≡ length t
   unfolding mark
@@ -68,7 +71,7 @@ module _ (t : List ℕ) (c : ℕ) where
 pub seen-none : (s : List ℕ) → Seen s (replicate 128 0) 0
 unfolding marked
 seen-none s = record {
-  room = length-replicate {A = ℕ} 128 0;
+  room = refl;
   marks = λ j l. absurd (omega arith);
   marks-of = λ c h. absurd (true≢false (sym h ∙ blank c (decLt (c / 64) 128)));
 }
@@ -86,8 +89,8 @@ pair-or : (s : List ℕ) (i j : ℕ) → (pairNumber s i j ≡ 0) ⊎ (pairNumbe
 unfolding pairNumber
 pair-or s i j = unless-or (not (eqb (owner s i) (owner s j) && eqb (name s i) (name s j))) 5
 
--- row i with owner below 32, and its pair c
-module _ (s t : List ℕ) (i c : ℕ) (seen : Seen s t i) (below : owner s i < 32) (e : c ≡ pair s i) (small : name s i < 256) where
+-- row i with an owner that there may be, and its pair c
+module _ (s t : List ℕ) (i c : ℕ) (seen : Seen s t i) (below : owner s i < principalLimit) (e : c ≡ pair s i) (small : name s i < 256) where
   pub pair-room : c < 64 * length t
   pair-room = omega (arith, seen .room)
 
@@ -104,7 +107,7 @@ module _ (s t : List ℕ) (i c : ℕ) (seen : Seen s t i) (below : owner s i < 3
 
   pub seen-next : (u : List ℕ) → u ≡ mark t c → Seen s u (i + 1)
   seen-next u f = rw f record {
-    room = length-mark t c ∙ seen .room;
+    room = rw length-mark (seen .room);
     marks = λ j l. ⊎-elim (λ q. let g : pair s j ≡ c = ap (λ (x : ℕ). pair s x) q ∙ sym e in rw g (mark-marks t c inside)) (λ k. mark-keeps t c (pair s j) (seen .marks j k)) (last-or i j (omega arith));
     marks-of = λ d h. ⊎-elim (λ q. (i, omega arith, small, omega arith)) (λ k. let (j, l, n, q) = seen .marks-of d k in (j, omega arith, n, q)) (mark-only t c inside d h);
   }
@@ -128,9 +131,9 @@ module _ (s t : List ℕ) (i k : ℕ) where
   unfolding SeenAfter
   seen-after h z = h z
 
--- an owner that there is, is below 32
-pub owner-fits : (s : List ℕ) (i k : ℕ) → principals s ≤ 32 → k ≡ principalNumber s i → k ≡ 0 → owner s i < 32
+-- an owner that there is, is one that there may be
+pub owner-fits : (s : List ℕ) (i k : ℕ) → AcceptedHead s → k ≡ principalNumber s i → k ≡ 0 → owner s i < principalLimit
 unfolding principalNumber
-owner-fits s i k few e z = omega (arith, ltb-true (owner s i) (principals s) (unless-zero (ltb (owner s i) (principals s)) _ _ (sym e ∙ z) .0))
+owner-fits s i k h e z = omega (arith, principals-few s h, ltb-true (owner s i) (principals s) (unless-zero (ltb (owner s i) (principals s)) _ _ (sym e ∙ z) .0))
 
 pub ruleset seen-laws = (seen-refused, seen-marked, seen-after, owner-fits)

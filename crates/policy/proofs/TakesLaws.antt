@@ -1,19 +1,19 @@
 -- The roles that a row takes are looked at one after the other, lowest first: what is no longer left is right.
 use mathlib.Core.Path.{_≡_, refl, sym, _∙_}
 use mathlib.Core.Logic.{_⊎_, inl, inr, ⊎-elim}
-use Prim.Native.Nat.{ℕ, _+_, _^_, _<_, _≤_}
+use Prim.Native.Nat.{ℕ, _^_, _<_, _≤_}
 use mathlib.Core.List.{List}
 use mathlib.Core.Bool.{Bool, true, false, true≢false, cond}
 use native.Mathlib.Omega.{arith}
 use native.Mathlib.Decide.{ℕ-discrete}
 use lib.Pow.{pow-pos}
-use lib.ListN.{length}
 use Rattle.model.specs.Number.{firstBelow}
 use Rattle.model.specs.Sets.{has, without}
-use Rattle.model.specs.Policy.{rowAt, takes, mayTake, takenNumber}
+use Rattle.model.specs.Policy.{roles, HasRow, takes, mayTake, AcceptedHead, takenNumber}
+use Rattle.model.proofs.Rows.{row-inside}
 use Rattle.model.proofs.Number.{unless-or, zero-below, one-number}
 use Rattle.model.proofs.Sets.{has-zero, has-below, has-without, without-has}
-use Rattle.policy.proofs.SetLaws.{held-power, next-without}
+use Rattle.shared.proofs.SetLaws.{held-power, next-without}
 
 -- two numbers are the same, or not
 pub same-or : (x j : ℕ) → (x ≡ j) ⊎ (x ≡ j → ⊥)
@@ -65,9 +65,9 @@ module _ (s : List ℕ) (i n : ℕ) (fits : takes s i < 2 ^ n) where
     unfolding Left
     left-takes l = l j m
 
-    pub left-row : Left s i rest → rowAt n ≤ length s → rowAt j + 22 ≤ length s
+    pub left-row : Left s i rest → AcceptedHead s → n ≡ roles s → HasRow s j
     unfolding Left
-    left-row l h = omega (arith, has-below n (takes s i) j fits (l j m))
+    left-row l h e = row-inside s h j (rw e at (has-below n (takes s i) j fits (l j m)))
 
     pub passed-next : (k next : ℕ) → Passed s i rest → k ≡ takenNumber s i j → k ≡ 0 → next ≡ without rest j → Passed s i next
     unfolding Passed

@@ -1,4 +1,4 @@
--- Roles known to be such as a row may take in.
+-- Roles such as a row may take in.
 use mathlib.Core.Path.{_≡_}
 use mathlib.Core.List.{List}
 use mathlib.Core.Bool.{true}
@@ -8,4 +8,4 @@ use Rattle.model.specs.Policy.{mayTake}
 
 -- row i may take in every role of a set
 unfoldable pub Takable : List ℕ → ℕ → ℕ → Type 0
-Takable s i known = (j : ℕ) → has known j ≡ true → mayTake s i j ≡ true
+Takable s i takable = (j : ℕ) → has takable j ≡ true → mayTake s i j ≡ true

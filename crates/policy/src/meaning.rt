@@ -3,14 +3,16 @@ ghost use mathlib.Core.Path.{_≡_};
 ghost use Prim.Native.Nat.{_^_, _<_, _≤_};
 ghost use lib.Bits.{bitOr};
 ghost use lib.ListN.{length};
+ghost use Rattle.model.specs.Limits.{roleLimit};
 ghost use Rattle.model.specs.Policy.{roles, members, takes, Accepted};
 ghost use Rattle.model.specs.Meaning.{gather, steps, rounds, column, meanings, meaning, answer, meaningOf};
 ghost use Rattle.policy.specs.Rounds.{Still, Fitting};
-use super::bytes;
 use super::check;
-use super::number;
 use super::rows;
-use super::sets;
+use shared::bytes;
+use shared::limit;
+use shared::number;
+use shared::sets;
 
 // What asking for a meaning gives: document 01's number, and the meaning's bits, 0 at any refusal.
 pub struct Meaning {
@@ -69,60 +71,60 @@ fn all_rounds(takes: &[u64], sets: &mut [u32])
 }
 
 // The members of each row: the sets to start from.
-fn load_members(s: &[u8], sets: &mut [u32])
-    requires { ⌜ (length (now sets) ≡ roles (now s)) × Accepted (now s) ⌝ }
-    ensures { λ _. ⌜ now (sets .exit) ≡ column (members (now (s .entry))) (roles (now (s .entry))) ⌝ }
+fn load_members(policy: &[u8], sets: &mut [u32])
+    requires { ⌜ (length (now sets) ≡ roles (now policy)) × Accepted (now policy) ⌝ }
+    ensures { λ _. ⌜ now (sets .exit) ≡ column (members (now (policy .entry))) (roles (now (policy .entry))) ⌝ }
 {
     let mut i = 0;
     while i < sets.len() {
-        sets[i] = rows::members_of(s, i);
+        sets[i] = rows::members_of(policy, i);
         i += 1;
     }
 }
 
 // What each row takes in, as words side by side: every round reads them.
-fn load_takes(s: &[u8], words: &mut [u64])
-    requires { ⌜ (length (now words) ≡ roles (now s)) × Accepted (now s) ⌝ }
-    ensures { λ _. ⌜ now (words .exit) ≡ column (takes (now (s .entry))) (roles (now (s .entry))) ⌝ }
+fn load_takes(policy: &[u8], words: &mut [u64])
+    requires { ⌜ (length (now words) ≡ roles (now policy)) × Accepted (now policy) ⌝ }
+    ensures { λ _. ⌜ now (words .exit) ≡ column (takes (now (policy .entry))) (roles (now (policy .entry))) ⌝ }
 {
     let mut i = 0;
     while i < words.len() {
-        words[i] = rows::takes_of(s, i);
+        words[i] = rows::takes_of(policy, i);
         i += 1;
     }
 }
 
 // The least sets of all roles.
-fn least_sets(s: &[u8], words: &mut [u64], sets: &mut [u32])
-    requires { ⌜ (length (now words) ≡ roles (now s)) × (length (now sets) ≡ roles (now s)) × Accepted (now s) ⌝ }
-    ensures { λ _. ⌜ now (sets .exit) ≡ meanings (now (s .entry)) ⌝ }
+fn least_sets(policy: &[u8], words: &mut [u64], sets: &mut [u32])
+    requires { ⌜ (length (now words) ≡ roles (now policy)) × (length (now sets) ≡ roles (now policy)) × Accepted (now policy) ⌝ }
+    ensures { λ _. ⌜ now (sets .exit) ≡ meanings (now (policy .entry)) ⌝ }
 {
-    load_takes(s, words);
-    load_members(s, sets);
+    load_takes(policy, words);
+    load_members(policy, sets);
     all_rounds(words, sets);
 }
 
 // The least set of a role that there is.
-fn least_set(s: &[u8], n: usize, role: usize) -> u32
-    requires { ⌜ (n ≡ roles (now s)) × Accepted (now s) × (role < roles (now s)) × (n ≤ 64) ⌝ }
-    ensures { λ r. ⌜ r ≡ meaning (now (s .entry)) role ⌝ }
+fn least_set(policy: &[u8], n: usize, role: usize) -> u32
+    requires { ⌜ (n ≡ roles (now policy)) × Accepted (now policy) × (role < roles (now policy)) × (n ≤ roleLimit) ⌝ }
+    ensures { λ r. ⌜ r ≡ meaning (now (policy .entry)) role ⌝ }
 {
-    let mut words = [0u64; 64];
-    let mut sets = [0u32; 64];
+    let mut words = [0u64; limit::ROLES as usize];
+    let mut sets = [0u32; limit::ROLES as usize];
     let part = &mut sets[..n];
-    least_sets(s, &mut words[..n], part);
+    least_sets(policy, &mut words[..n], part);
     part[role]
 }
 
 // The meaning of a role under a policy: any bytes, any role number.
-pub fn meaning_of(s: &[u8], role: u32) -> Meaning
-    ensures { λ r. ⌜ answer (r .number) (r .bits) ≡ meaningOf (now (s .entry)) role ⌝ }
+pub fn meaning_of(policy: &[u8], role: u32) -> Meaning
+    ensures { λ r. ⌜ answer (r .number) (r .bits) ≡ meaningOf (now (policy .entry)) role ⌝ }
 {
-    let number = check::policy_number(s);
+    let number = check::policy_number(policy);
     if number != number::ACCEPTED {
         return Meaning { number, bits: 0 };
     }
-    let roles = bytes::wide(s[6]);
+    let roles = bytes::wide(rows::roles_of(policy));
     if roles <= role {
         return Meaning {
             number: number::NO_SUCH_ROLE,
@@ -131,6 +133,6 @@ pub fn meaning_of(s: &[u8], role: u32) -> Meaning
     }
     Meaning {
         number: number::ACCEPTED,
-        bits: least_set(s, roles as usize, role as usize),
+        bits: least_set(policy, roles as usize, role as usize),
     }
 }

@@ -1,27 +1,27 @@
 // Rule 5's pairs of owner and name: one bit for each pair that can be, so that no row is compared with every earlier one.
 ghost use mathlib.Core.Path.{_≡_};
-ghost use Prim.Native.Nat.{_+_, _*_, _<_, _≤_};
+ghost use Prim.Native.Nat.{_+_, _*_, _<_};
 ghost use lib.ListN.{length};
+ghost use Rattle.model.specs.Limits.{principalLimit};
 ghost use Rattle.model.specs.Number.{firstBelow};
-ghost use Rattle.model.specs.Policy.{rowAt, owner, name, pairNumber};
+ghost use Rattle.model.specs.Policy.{HasRow, owner, name, pairNumber};
 ghost use Rattle.policy.specs.Pairs.{pair, marked, mark, Seen};
-use super::bytes;
-use super::number;
 use super::rows;
-use super::sets;
+use shared::bytes;
+use shared::number;
+use shared::sets;
 
 // 64 bits a word, for 32 owners of 256 names each.
 pub const WORDS: usize = 128;
 
 // Owner and name of row i as one number.
-fn pair_of(s: &[u8], i: usize) -> usize
-    requires { ⌜ rowAt i + 22 ≤ length (now s) ⌝ }
-    ensures same { λ r. ⌜ r ≡ pair (now (s .entry)) i ⌝ }
-    ensures small { λ r. ⌜ name (now (s .entry)) i < 256 ⌝ }
+fn pair_of(policy: &[u8], i: usize) -> usize
+    requires { ⌜ HasRow (now policy) i ⌝ }
+    ensures same { λ r. ⌜ r ≡ pair (now (policy .entry)) i ⌝ }
+    ensures small { λ r. ⌜ name (now (policy .entry)) i < 256 ⌝ }
 {
-    let here = rows::HEAD_BYTES + rows::ROW_BYTES * i;
-    let owner = bytes::wide(s[here]) as usize;
-    let name = bytes::wide(s[here + 1]) as usize;
+    let owner = bytes::wide(rows::owner_of(policy, i)) as usize;
+    let name = bytes::wide(rows::name_of(policy, i)) as usize;
     owner * 256 + name
 }
 
@@ -38,16 +38,16 @@ fn set_mark(words: &mut [u64], c: usize)
     requires { ⌜ c < 64 * length (now words) ⌝ }
     ensures { λ _. ⌜ now (words .exit) ≡ mark (now (words .entry)) c ⌝ }
 {
-    words[c / 64] = words[c / 64] | 1 << (c % 64);
+    words[c / 64] = words[c / 64] | sets::single((c % 64) as u64);
 }
 
 // 5: no earlier row has the owner and name of row i, which are marked now.
-pub fn pairs_number(s: &[u8], i: usize, seen: &mut [u64]) -> u32
-    requires { ⌜ (rowAt i + 22 ≤ length (now s)) × (owner (now s) i < 32) × Seen (now s) (now seen) i ⌝ }
-    ensures number { λ r. ⌜ r ≡ firstBelow (pairNumber (now (s .entry)) i) i ⌝ }
-    ensures now_seen { λ r. ⌜ Seen (now (s .entry)) (now (seen .exit)) (i + 1) ⌝ }
+pub fn pairs_number(policy: &[u8], i: usize, seen: &mut [u64]) -> u32
+    requires { ⌜ (HasRow (now policy) i) × (owner (now policy) i < principalLimit) × Seen (now policy) (now seen) i ⌝ }
+    ensures number { λ r. ⌜ r ≡ firstBelow (pairNumber (now (policy .entry)) i) i ⌝ }
+    ensures now_seen { λ r. ⌜ Seen (now (policy .entry)) (now (seen .exit)) (i + 1) ⌝ }
 {
-    let pair = pair_of(s, i);
+    let pair = pair_of(policy, i);
     let before = is_marked(seen, pair);
     set_mark(seen, pair);
     if before {

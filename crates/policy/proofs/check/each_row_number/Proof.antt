@@ -1,3 +1,4 @@
+-- The rows before row i gave 0, and their pairs of owner and name are those marked: so the first number that is not 0 is the answer.
 use Rattle.model.specs.Policy.{rowNumber}
 use Rattle.model.specs.Number.{firstBelow}
 use Rattle.policy.specs.Pairs.{Seen}

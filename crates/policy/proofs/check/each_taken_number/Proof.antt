@@ -1,5 +1,7 @@
+-- Roles that the row takes and that are no longer left were right; what is left is part of what it takes.
 use Rattle.policy.proofs.TakesLaws.{Passed, Left}
 use Rattle.policy.proofs.TakesLaws.{takes-laws}
+use Rattle.policy.proofs.RowLaws.{insides}
 use borrow.Author.Needs.{needs}
 use Rattle.policy.proofs.check.each_taken_number.Statement.{statement}
 use Rattle.policy.proofs.check.each_taken_number.Tie as tie
@@ -7,8 +9,8 @@ use Rattle.policy.proofs.check.each_taken_number.Reads as reads
 use Rattle.policy.proofs.check.each_taken_number.Lts as lts
 use Rattle.policy.proofs.check.taken_number.Reads as taken-number-reads
 use Rattle.policy.proofs.rows.takes_of.Reads as takes-of-reads
-use Rattle.policy.proofs.sets.lowest.Reads as lowest-reads
-use Rattle.policy.proofs.sets.without_lowest.Reads as without-lowest-reads
+use Rattle.shared.proofs.sets.lowest.Reads as lowest-reads
+use Rattle.shared.proofs.sets.without_lowest.Reads as without-lowest-reads
 
 abbrev Inv-loop : tie.InvT-loop
 Inv-loop s i n rest₀ rest = Passed s i rest × Left s i rest
@@ -22,12 +24,12 @@ each-taken-number-spec =
     (tie.spec
     Inv-loop
     μ-loop
-    (λ c κs. search (needs, takes-laws))
-    (λ c. search (needs, takes-laws))
-    (λ c κs. search (needs, takes-laws))
-    (λ c κs. search (needs, takes-laws))
-    (λ c. search (needs, takes-laws))
-    (λ c κs. search (needs, takes-laws))
-    (λ c. search (needs, takes-laws))
-    (λ c. search (needs, takes-laws))
-    (λ c. search (needs, takes-laws)))
+    (λ c κs. search (needs, takes-laws, insides))
+    (λ c. search (needs, takes-laws, insides))
+    (λ c κs. search (needs, takes-laws, insides))
+    (λ c κs. search (needs, takes-laws, insides))
+    (λ c. search (needs, takes-laws, insides))
+    (λ c κs. search (needs, takes-laws, insides))
+    (λ c. search (needs, takes-laws, insides))
+    (λ c. search (needs, takes-laws, insides))
+    (λ c. search (needs, takes-laws, insides)))

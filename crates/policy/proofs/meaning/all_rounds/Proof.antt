@@ -1,3 +1,4 @@
+-- After n rounds the sets are the definition's after n; where a round adds nothing, all later ones add nothing.
 use lib.ListN.{length}
 use Rattle.model.specs.Meaning.{rounds}
 use Prim.Native.Nat.{_≤_, _-_}
@@ -11,7 +12,7 @@ use Rattle.policy.proofs.meaning.all_rounds.Lts as lts
 use Rattle.policy.proofs.meaning.round.Reads as round-reads
 
 abbrev Inv-loop : tie.InvT-loop
-Inv-loop takes sets₀ n₀ sets n = (n ≤ length sets) × ((length sets ≡ length takes) × (sets ≡ rounds takes sets₀ n))
+Inv-loop takes sets₀ n₀ sets n = (sets ≡ rounds takes sets₀ n) × ((n ≤ length sets) × (length sets ≡ length takes))
 
 abbrev μ-loop : tie.MeasureT-loop
 μ-loop takes sets₀ n₀ sets n = length takes - n

@@ -1,3 +1,4 @@
+-- The first i places hold the members of the first i rows.
 use native.Mathlib.Omega.{arith}
 use Rattle.model.specs.Policy.{roles, members}
 use lib.ListN.{length, take, length-set}

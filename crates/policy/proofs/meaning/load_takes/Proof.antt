@@ -1,3 +1,4 @@
+-- The first i places hold what the first i rows take.
 use native.Mathlib.Omega.{arith}
 use Rattle.model.specs.Policy.{roles, takes}
 use lib.ListN.{length, take, length-set}

@@ -1,3 +1,4 @@
+-- After i rows the sets are the definition's after i steps, and where nothing grew they are those before the round.
 use native.Mathlib.Omega.{arith}
 use mathlib.Core.Logic.{⊎-elim}
 use Rattle.policy.specs.Rounds.{Still}

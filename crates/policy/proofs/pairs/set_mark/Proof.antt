@@ -4,19 +4,16 @@ use Rattle.policy.proofs.pairs.set_mark.Statement.{statement}
 use Rattle.policy.proofs.pairs.set_mark.Tie as tie
 use Rattle.policy.proofs.pairs.set_mark.Reads as reads
 use Rattle.policy.proofs.pairs.set_mark.Lts as lts
-
--- src/pairs.rt:34:1
-returns : tie.Need-returns
-returns c = mark-is _ _
+use Rattle.shared.proofs.sets.single.Reads as single-reads
 
 pub set-mark-spec : {M : Type 1} → statement M
 set-mark-spec =
     tie.close
     (tie.spec
-    (λ c. search needs)
-    (λ c. search needs)
-    (λ c. search needs)
-    (λ c. search needs)
-    (λ c. search needs)
-    (λ c. search needs)
-    returns)
+    (λ c. search (needs, mark-is))
+    (λ c. search (needs, mark-is))
+    (λ c κs. search (needs, mark-is))
+    (λ c. search (needs, mark-is))
+    (λ c. search (needs, mark-is))
+    (λ c. search (needs, mark-is))
+    (λ c. search (needs, mark-is)))

@@ -8,14 +8,14 @@ use Rattle.policy.proofs.rows.may_hold.Reads as reads
 use Rattle.policy.proofs.rows.may_hold.Lts as lts
 use Rattle.policy.proofs.rows.trusters_of.Reads as trusters-of-reads
 use Rattle.policy.proofs.rows.viewers_of.Reads as viewers-of-reads
-use Rattle.policy.proofs.sets.contains.Reads as contains-reads
+use Rattle.shared.proofs.sets.contains.Reads as contains-reads
 
 -- src/rows.rt:53:1
 -- The law is named, so that a refusal says which of its premises is missing.
 returns-2 : tie.Need-returns-2
 returns-2 c =
     let a = c .before .before .before .before .before .before .args in
-    truster-decides (now (a .s)) (a .i) (a .principal) _ _ (c .before .before .before .contains .ensures) (search needs) (search (needs, not-false)) _ _ (c .contains2 .ensures) (search needs)
+    truster-decides (now (a .policy)) (a .i) (a .principal) _ _ (c .before .before .before .contains .ensures) (search needs) (search (needs, not-false)) _ _ (c .contains2 .ensures) (search needs)
 
 pub may-hold-spec : {M : Type 1} → statement M
 may-hold-spec =
