@@ -3,17 +3,19 @@ use mathlib.Core.Path.{_≡_, refl, sym, _∙_}
 use Prim.Native.Nat.{ℕ, _+_, _-_, _<_, _≤_}
 use mathlib.Core.List.{List}
 use mathlib.Core.Bool.{Bool, true, false, cond}
+use native.Mathlib.Omega.{arith}
 use lib.Dec.{eqb, ltb}
 use lib.ListN.{length}
 use borrow.Author.Tests.{lt-ltb, le-ltb, eq-eqb, ne-eqb}
 use Rattle.model.specs.Number.{programCode, programRange}
 use Rattle.model.specs.Bytes.{byte}
 use Rattle.model.specs.Policy.{reading, trust}
-use Rattle.model.specs.Mutation.{Kind as ModelKind, Mutation, addMember, deleteMember, addTaken, deleteTaken}
-use Rattle.model.specs.Syntax.{Atom as ModelAtom, role, fixed, of, everyone}
+use Rattle.model.specs.Mutation.{Mutation, addMember, deleteMember, addTaken, deleteTaken}
+use Rattle.model.specs.Syntax.{Atom as ModelAtom, role, fixed, of, everyone, atomByte}
+use Rattle.model.specs.Fits.{AtomFits}
 use Rattle.model.specs.Program.{Read as Reading, got, bad, readBelow, atomAt, readAtom, readLabel, readQuery, mutationAt, readMutation}
-use Rattle.program.specs.declared.answer.Read.{Read}
-use Rattle.program.specs.declared.answer.Read.the-variants.{At, Bad}
+use Rattle.program.specs.declared.answer.Answer.{Answer}
+use Rattle.program.specs.declared.answer.Answer.the-variants.{At, Refused}
 use Rattle.program.specs.declared.codes.Atom.{Atom}
 use Rattle.program.specs.declared.codes.Atom.the-variants.{Role, Viewers, Trusters, Everyone}
 use Rattle.program.specs.declared.codes.AtomOf.{AtomOf}
@@ -22,61 +24,89 @@ use Rattle.program.specs.declared.codes.Kind.{Kind}
 use Rattle.program.specs.declared.codes.Kind.the-variants.{AddMember, DeleteMember, AddTaken, DeleteTaken}
 use Rattle.program.specs.declared.codes.KindOf.{KindOf}
 use Rattle.program.specs.declared.codes.KindOf.the-variants as kind
-use Rattle.program.specs.Answer.{answerOf}
-use Rattle.program.specs.Codes.{atomOf, roleBelow, kindOf, operandBound}
-use Rattle.program.proofs.AnswerLaws.{then-at, then-bad, then-last, byte-there, byte-missing}
+use Rattle.program.specs.Answer.{reached, stopped, reachedBy, endOf}
+use Rattle.program.specs.Codes.{atomOf, modelAtom, roleBelow, kindOf, modelKind, operandBound}
+use Rattle.program.proofs.CodeLaws.{atom-byte, atom-fits, none-high, none-everyone}
+use Rattle.program.proofs.AnswerLaws.{then-at, then-refused, then-last, byte-there, byte-missing}
 
 -- a byte below a bound
 module _ (s : List ℕ) (bound at : ℕ) where
-  pub below-missing : length s ≤ at → Bad 10 (length s) ≡ answerOf (readBelow s bound at)
+  pub below-missing : length s ≤ at → stopped 10 (length s) ≡ endOf (readBelow s bound at)
   unfolding readBelow
   below-missing h = byte-missing s at _ h
 
-  pub below-large : at < length s → bound ≤ byte s at → Bad 13 at ≡ answerOf (readBelow s bound at)
-  unfolding readBelow answerOf
+  pub below-large : at < length s → bound ≤ byte s at → stopped 13 at ≡ endOf (readBelow s bound at)
+  unfolding readBelow endOf
   below-large l h = rw (byte-there s at _ l) (simp (le-ltb _ _ h))
 
   pub below-read : at < length s → byte s at < bound → readBelow s bound at ≡ got (byte s at) (at + 1)
   unfolding readBelow
   below-read l h = rw (byte-there s at _ l) (simp (lt-ltb _ _ h))
 
-  pub below-small : at < length s → byte s at < bound → At (at + 1) ≡ answerOf (readBelow s bound at)
-  unfolding answerOf
+  pub below-small : at < length s → byte s at < bound → reached (at + 1) ≡ endOf (readBelow s bound at)
+  unfolding endOf
   below-small l h = rw (below-read l h)
 
 pub ruleset belows = (below-missing, below-large, below-small)
 
--- a label
+-- a label: the byte of the atom that was read is a role below R, or everyone's, or neither
 module _ (s : List ℕ) (R at : ℕ) where
-  pub label-missing : length s ≤ at → Bad 10 (length s) ≡ answerOf (readLabel s R at)
+  pub label-missing : length s ≤ at → stopped 10 (length s) ≡ endOf (readLabel s R at)
   unfolding readLabel
   label-missing h = byte-missing s at _ h
 
   module _ (l : at < length s) where
-    pub label-role : byte s at < R → At (at + 1) ≡ answerOf (readLabel s R at)
-    unfolding readLabel answerOf
-    label-role h = rw (byte-there s at _ l) (simp (lt-ltb _ _ h))
+    other-label : R ≤ byte s at → (byte s at ≡ 0xff → ⊥) → stopped 13 at ≡ endOf (readLabel s R at)
+    unfolding readLabel endOf
+    other-label h n = rw (byte-there s at _ l) (simp (le-ltb _ _ h, ne-eqb _ _ n))
 
-    pub label-everyone : R ≤ byte s at → byte s at ≡ 0xff → At (at + 1) ≡ answerOf (readLabel s R at)
-    unfolding readLabel answerOf
-    label-everyone h e = rw (byte-there s at _ l) (simp (le-ltb _ _ h, eq-eqb _ _ e))
+    module _ (few : R ≤ 64) (k : AtomOf) (e : k ≡ atomOf (byte s at)) where
+      pub label-none : k ≡ atom.No → stopped 13 at ≡ endOf (readLabel s R at)
+      label-none h = other-label (omega (arith, none-high (byte s at) k e h)) (none-everyone (byte s at) k e h)
 
-    pub label-other : R ≤ byte s at → (byte s at ≡ 0xff → ⊥) → Bad 13 at ≡ answerOf (readLabel s R at)
-    unfolding readLabel answerOf
-    label-other h n = rw (byte-there s at _ l) (simp (le-ltb _ _ h, ne-eqb _ _ n))
+      module _ (a : Atom) (h : k ≡ atom.Is a) where
+        here-byte : atomByte (modelAtom a) ≡ byte s at
+        here-byte = atom-byte (byte s at) k e a h
 
-pub ruleset labels = (label-missing, label-role, label-everyone, label-other)
+        here-fits : AtomFits 64 (modelAtom a)
+        here-fits = atom-fits (byte s at) k e a h
+
+        pub label-role : (j : ℕ) → a ≡ Role j → j < R → reached (at + 1) ≡ endOf (readLabel s R at)
+        unfolding readLabel endOf
+        label-role j g i =
+            let x : j ≡ byte s at = rw g at here-byte in
+            let y : byte s at < R = omega arith in rw (byte-there s at _ l) (simp (lt-ltb _ _ y))
+
+        pub label-large : (j : ℕ) → a ≡ Role j → R ≤ j → stopped 13 at ≡ endOf (readLabel s R at)
+        label-large j g i =
+            let x : j ≡ byte s at = rw g at here-byte in
+            let y : j < 64 = rw g at here-fits in other-label (omega arith) (λ z. omega arith)
+
+        pub label-viewers : (j : ℕ) → a ≡ Viewers j → stopped 13 at ≡ endOf (readLabel s R at)
+        label-viewers j g =
+            let x : 0x40 + j ≡ byte s at = rw g at here-byte in
+            let y : j < 64 = rw g at here-fits in other-label (omega arith) (λ z. omega arith)
+
+        pub label-trusters : (j : ℕ) → a ≡ Trusters j → stopped 13 at ≡ endOf (readLabel s R at)
+        label-trusters j g =
+            let x : 0x80 + j ≡ byte s at = rw g at here-byte in
+            let y : j < 64 = rw g at here-fits in other-label (omega arith) (λ z. omega arith)
+
+        pub label-everyone : a ≡ Everyone → reached (at + 1) ≡ endOf (readLabel s R at)
+        unfolding readLabel endOf
+        label-everyone g =
+            let x : 0xff ≡ byte s at = rw g at here-byte in
+            let y : R ≤ byte s at = omega arith in rw (byte-there s at _ l) (simp (le-ltb _ _ y, eq-eqb _ _ (sym x)))
+
+pub ruleset labels = (label-missing, label-none, label-role, label-large, label-viewers, label-trusters, label-everyone)
 
 -- an atom: the definition goes by what the byte stands for
 named : ℕ → ℕ → ℕ → AtomOf → Reading ModelAtom
-named R at next (atom.Is (Role j)) = cond (ltb j R) (got (role j) next) (bad programRange at)
-named R at next (atom.Is (Viewers j)) = cond (ltb j R) (got (fixed (of reading j)) next) (bad programRange at)
-named R at next (atom.Is (Trusters j)) = cond (ltb j R) (got (fixed (of trust j)) next) (bad programRange at)
-named R at next (atom.Is Everyone) = got (fixed everyone) next
+named R at next (atom.Is a) = cond (roleBelow R a) (got (modelAtom a) next) (bad programRange at)
 named R at next atom.No = bad programCode at
 
 by-name : (R at x next : ℕ) → atomAt R at x next ≡ named R at next (atomOf x)
-unfolding atomAt atomOf named
+unfolding atomAt atomOf named roleBelow
 by-name R at x next = go (ltb x 0x40) (ltb x 0x80) (ltb x 0xc0) (eqb x 0xff)
   where
     go : (a b c d : Bool) → cond a (cond (ltb x R) (got (role x) next) (bad programRange at))
@@ -90,20 +120,8 @@ by-name R at x next = go (ltb x 0x40) (ltb x 0x80) (ltb x 0xc0) (eqb x 0xff)
     go false false false true = refl
     go false false false false = refl
 
-compared : (at next : ℕ) (x : ModelAtom) (b : Bool) → cond b (At next) (Bad 13 at) ≡ answerOf (cond b (got x next) (bad programRange at))
-unfolding answerOf
-compared at next x true = refl
-compared at next x false = refl
-
-judged : (R at next : ℕ) (a : Atom) → cond (roleBelow R a) (At next) (Bad 13 at) ≡ answerOf (named R at next (atom.Is a))
-unfolding named roleBelow answerOf
-judged R at next (Role j) = compared at next (role j) (ltb j R)
-judged R at next (Viewers j) = compared at next (fixed (of reading j)) (ltb j R)
-judged R at next (Trusters j) = compared at next (fixed (of trust j)) (ltb j R)
-judged R at next Everyone = refl
-
 module _ (s : List ℕ) (R at : ℕ) where
-  pub atom-missing : length s ≤ at → Bad 10 (length s) ≡ answerOf (readAtom s R at)
+  pub atom-missing : length s ≤ at → stopped 10 (length s) ≡ endOf (readAtom s R at)
   unfolding readAtom
   atom-missing h = byte-missing s at _ h
 
@@ -112,38 +130,34 @@ module _ (s : List ℕ) (R at : ℕ) where
     unfolding readAtom
     here = byte-there s at (atomAt R at) l ∙ by-name R at (byte s at) (at + 1) ∙ rw e
 
-    pub atom-none : k ≡ atom.No → Bad 12 at ≡ answerOf (readAtom s R at)
-    unfolding answerOf named
+    pub atom-none : k ≡ atom.No → stopped 12 at ≡ endOf (readAtom s R at)
+    unfolding endOf named
     atom-none h = rw (here, h)
 
     module _ (a : Atom) (h : k ≡ atom.Is a) (b : Bool) (d : b ≡ roleBelow R a) where
-      pub atom-read : b ≡ true → At (at + 1) ≡ answerOf (readAtom s R at)
-      atom-read t = rw (here, h, ← judged R at (at + 1) a, ← d, t)
+      pub atom-read : b ≡ true → reached (at + 1) ≡ endOf (readAtom s R at)
+      unfolding endOf named
+      atom-read t = rw (here, h, ← d, t)
 
-      pub atom-large : b ≡ false → Bad 13 at ≡ answerOf (readAtom s R at)
-      atom-large t = rw (here, h, ← judged R at (at + 1) a, ← d, t)
+      pub atom-large : b ≡ false → stopped 13 at ≡ endOf (readAtom s R at)
+      unfolding endOf named
+      atom-large t = rw (here, h, ← d, t)
 
 pub ruleset atoms = (atom-missing, atom-none, atom-read, atom-large)
 
 -- a query
-module _ (s : List ℕ) (R at : ℕ) (a : Read) (e : a ≡ answerOf (readAtom s R at)) where
-  pub query-first : (b c : ℕ) → a ≡ Bad b c → a ≡ answerOf (readQuery s R at)
+module _ (s : List ℕ) (R at : ℕ) (a : Answer) (e : reachedBy a ≡ endOf (readAtom s R at)) where
+  pub query-first : (b c : ℕ) → a ≡ Refused b c → reachedBy a ≡ endOf (readQuery s R at)
   unfolding readQuery
-  query-first b c h = then-bad (readAtom s R at) _ b c a e h
+  query-first b c h = then-refused (readAtom s R at) _ e h
 
-  pub query-second : (mid : ℕ) (r : Read) → a ≡ At mid → r ≡ answerOf (readAtom s R mid) → r ≡ answerOf (readQuery s R at)
+  pub query-second : (mid : ℕ) (r : Answer) → a ≡ At mid → reachedBy r ≡ endOf (readAtom s R mid) → reachedBy r ≡ endOf (readQuery s R at)
   unfolding readQuery
-  query-second mid r h g = then-at (readAtom s R at) _ mid r (sym e ∙ h) (λ x _. g ∙ then-last (readAtom s R mid) _)
+  query-second mid r h g = then-at (readAtom s R at) _ e h (λ x. g ∙ then-last (readAtom s R mid) _)
 
 pub ruleset queries = (query-first, query-second)
 
 -- a mutation: the definition goes by its kind
-modelKind : Kind → ModelKind
-modelKind AddMember = addMember
-modelKind DeleteMember = deleteMember
-modelKind AddTaken = addTaken
-modelKind DeleteTaken = deleteTaken
-
 kinded : List ℕ → ℕ → ℕ → ℕ → ℕ → KindOf → Reading Mutation
 kinded s P R at next (kind.Is k) = mutationAt s R (modelKind k) (operandBound P R k) next
 kinded s P R at next kind.No = bad programCode at
@@ -152,7 +166,7 @@ by-kind : (s : List ℕ) (P R at x next : ℕ)
     → cond (eqb x 0) (mutationAt s R addMember P next) (cond (eqb x 1) (mutationAt s R deleteMember P next)
     (cond (eqb x 2) (mutationAt s R addTaken R next) (cond (eqb x 3) (mutationAt s R deleteTaken R next) (bad programCode at))))
     ≡ kinded s P R at next (kindOf x)
-unfolding kindOf kinded modelKind operandBound
+unfolding kindOf kinded operandBound
 by-kind s P R at x next = go (eqb x 0) (eqb x 1) (eqb x 2) (eqb x 3)
   where
     go : (a b c d : Bool) → cond a (mutationAt s R addMember P next) (cond b (mutationAt s R deleteMember P next)
@@ -165,7 +179,7 @@ by-kind s P R at x next = go (eqb x 0) (eqb x 1) (eqb x 2) (eqb x 3)
     go false false false false = refl
 
 module _ (s : List ℕ) (P R at : ℕ) where
-  pub mutation-missing : length s ≤ at → Bad 10 (length s) ≡ answerOf (readMutation s P R at)
+  pub mutation-missing : length s ≤ at → stopped 10 (length s) ≡ endOf (readMutation s P R at)
   unfolding readMutation
   mutation-missing h = byte-missing s at _ h
 
@@ -174,18 +188,18 @@ module _ (s : List ℕ) (P R at : ℕ) where
     unfolding readMutation
     there = byte-there s at _ l ∙ by-kind s P R at (byte s at) (at + 1) ∙ rw e
 
-    pub mutation-unknown : k ≡ kind.No → Bad 12 at ≡ answerOf (readMutation s P R at)
-    unfolding answerOf kinded
+    pub mutation-unknown : k ≡ kind.No → stopped 12 at ≡ endOf (readMutation s P R at)
+    unfolding endOf kinded
     mutation-unknown h = rw (there, h)
 
-    module _ (m : Kind) (h : k ≡ kind.Is m) (a : Read) (i : a ≡ answerOf (readBelow s R (at + 1))) where
-      pub mutation-role : (b c : ℕ) → a ≡ Bad b c → a ≡ answerOf (readMutation s P R at)
+    module _ (m : Kind) (h : k ≡ kind.Is m) (a : Answer) (i : reachedBy a ≡ endOf (readBelow s R (at + 1))) where
+      pub mutation-role : (b c : ℕ) → a ≡ Refused b c → reachedBy a ≡ endOf (readMutation s P R at)
       unfolding kinded mutationAt
-      mutation-role b c g = rw (there, h) (then-bad (readBelow s R (at + 1)) _ b c a i g)
+      mutation-role b c g = rw (there, h) (then-refused (readBelow s R (at + 1)) _ i g)
 
-      pub mutation-operand : (mid n : ℕ) (r : Read) → a ≡ At mid → n ≡ operandBound P R m → r ≡ answerOf (readBelow s n mid) → r ≡ answerOf (readMutation s P R at)
+      pub mutation-operand : (mid n : ℕ) (r : Answer) → a ≡ At mid → n ≡ operandBound P R m → reachedBy r ≡ endOf (readBelow s n mid) → reachedBy r ≡ endOf (readMutation s P R at)
       unfolding kinded mutationAt
       mutation-operand mid n r g o j =
-          rw (there, h) (then-at (readBelow s R (at + 1)) _ mid r (sym i ∙ g) (λ x _. rw o at j ∙ then-last (readBelow s (operandBound P R m) mid) _))
+          rw (there, h) (then-at (readBelow s R (at + 1)) _ i g (λ x. rw o at j ∙ then-last (readBelow s (operandBound P R m) mid) _))
 
 pub ruleset mutations = (mutation-missing, mutation-unknown, mutation-role, mutation-operand)

@@ -1,5 +1,5 @@
 -- A law for each return of expressions.rt: the definition goes by the code, with one less of depth for what it holds.
-use mathlib.Core.Path.{_≡_, refl, sym, _∙_}
+use mathlib.Core.Path.{_≡_, refl, _∙_}
 use Prim.Native.Nat.{ℕ, zero, suc, _+_, _-_, _<_, _≤_}
 use mathlib.Core.List.{List}
 use mathlib.Core.Bool.{Bool, true, false, cond}
@@ -10,27 +10,19 @@ use lib.ListN.{length}
 use borrow.Author.Tests.{le-leb, lt-leb}
 use Rattle.model.specs.Number.{programLength, programCode}
 use Rattle.model.specs.Bytes.{byte, word}
-use Rattle.model.specs.Syntax.{Operator as ModelOperator, sum, difference, product, quotient, less, equal, Expr, constant, variable, binary}
+use Rattle.model.specs.Syntax.{sum, difference, product, quotient, less, equal, Expr, constant, variable, binary}
 use Rattle.model.specs.Program.{Read as Reading, got, bad, andThen, readByte, readBelow, binaryAt, exprAt, readExpr}
-use Rattle.program.specs.declared.answer.Read.{Read}
-use Rattle.program.specs.declared.answer.Read.the-variants.{At, Bad}
+use Rattle.program.specs.declared.answer.Answer.{Answer}
+use Rattle.program.specs.declared.answer.Answer.the-variants.{At, Refused}
 use Rattle.program.specs.declared.codes.Operator.{Operator}
 use Rattle.program.specs.declared.codes.Operator.the-variants.{Sum, Difference, Product, Quotient, Less, Equal}
 use Rattle.program.specs.declared.codes.Expression.{Expression}
 use Rattle.program.specs.declared.codes.Expression.the-variants.{Constant, Variable, Binary}
 use Rattle.program.specs.declared.codes.ExpressionOf.{ExpressionOf}
 use Rattle.program.specs.declared.codes.ExpressionOf.the-variants.{Is, No}
-use Rattle.program.specs.Answer.{answerOf}
-use Rattle.program.specs.Codes.{expressionOf}
-use Rattle.program.proofs.AnswerLaws.{then-at, then-bad, then-last, byte-there, byte-missing}
-
-modelOperator : Operator → ModelOperator
-modelOperator Sum = sum
-modelOperator Difference = difference
-modelOperator Product = product
-modelOperator Quotient = quotient
-modelOperator Less = less
-modelOperator Equal = equal
+use Rattle.program.specs.Answer.{reached, stopped, reachedBy, endOf}
+use Rattle.program.specs.Codes.{expressionOf, modelOperator}
+use Rattle.program.proofs.AnswerLaws.{then-at, then-refused, then-last, byte-there, byte-missing}
 
 constantAt : List ℕ → ℕ → Reading Expr
 constantAt s next = cond (leb (next + 4) (length s)) (got (constant (word s next 4)) (next + 4)) (bad programLength (length s))
@@ -43,7 +35,7 @@ module _ (s : List ℕ) (vars : ℕ) (sub : ℕ → Reading Expr) (at next : ℕ
   coded No = bad programCode at
 
   by-code : (x : ℕ) → exprAt s vars sub at x next ≡ coded (expressionOf x)
-  unfolding exprAt expressionOf coded constantAt modelOperator
+  unfolding exprAt expressionOf coded constantAt
   by-code x = go (eqb x 0) (eqb x 1) (eqb x 2) (eqb x 3) (eqb x 4) (eqb x 5) (eqb x 6) (eqb x 7)
     where
       go : (a b c d e f g h : Bool) → cond a (constantAt s next) (cond b (andThen (readBelow s vars next) (λ x end. got (variable x) end))
@@ -61,8 +53,8 @@ module _ (s : List ℕ) (vars : ℕ) (sub : ℕ → Reading Expr) (at next : ℕ
       go false false false false false false false true = refl
       go false false false false false false false false = refl
 
-pub expr-deep : (s : List ℕ) (v d at : ℕ) → d ≡ 0 → Bad 14 at ≡ answerOf (readExpr s v d at)
-unfolding readExpr answerOf
+pub expr-deep : (s : List ℕ) (v d at : ℕ) → d ≡ 0 → stopped 14 at ≡ endOf (readExpr s v d at)
+unfolding readExpr endOf
 expr-deep s v d at e = rw e
 
 step : (s : List ℕ) (v d at : ℕ) → (d ≡ 0 → ⊥) → readExpr s v d at ≡ andThen (readByte s at) (exprAt s v (readExpr s v (d - 1)) at)
@@ -71,38 +63,38 @@ step s v zero at f = absurd (f refl)
 step s v (suc d) at f = rw sub-one
 
 module _ (s : List ℕ) (v d at : ℕ) (f : d ≡ 0 → ⊥) where
-  pub expr-missing : length s ≤ at → Bad 10 (length s) ≡ answerOf (readExpr s v d at)
+  pub expr-missing : length s ≤ at → stopped 10 (length s) ≡ endOf (readExpr s v d at)
   expr-missing h = rw (step s v d at f) (byte-missing s at _ h)
 
   module _ (l : at < length s) (k : ExpressionOf) (e : k ≡ expressionOf (byte s at)) where
     here : readExpr s v d at ≡ coded s v (readExpr s v (d - 1)) at (at + 1) k
     here = step s v d at f ∙ byte-there s at _ l ∙ by-code s v (readExpr s v (d - 1)) at (at + 1) (byte s at) ∙ rw e
 
-    pub expr-unknown : k ≡ No → Bad 12 at ≡ answerOf (readExpr s v d at)
-    unfolding coded answerOf
+    pub expr-unknown : k ≡ No → stopped 12 at ≡ endOf (readExpr s v d at)
+    unfolding coded endOf
     expr-unknown h = rw (here, h)
 
     module _ (x : Expression) (h : k ≡ Is x) where
-      pub constant-missing : x ≡ Constant → length s - (at + 1) < 4 → Bad 10 (length s) ≡ answerOf (readExpr s v d at)
-      unfolding coded constantAt answerOf
+      pub constant-missing : x ≡ Constant → length s - (at + 1) < 4 → stopped 10 (length s) ≡ endOf (readExpr s v d at)
+      unfolding coded constantAt endOf
       constant-missing g i = let j : length s < at + 1 + 4 = omega arith in rw (here, h, g) (simp (lt-leb _ _ j))
 
-      pub constant-read : x ≡ Constant → 4 ≤ length s - (at + 1) → At (at + 1 + 4) ≡ answerOf (readExpr s v d at)
-      unfolding coded constantAt answerOf
+      pub constant-read : x ≡ Constant → 4 ≤ length s - (at + 1) → reached (at + 1 + 4) ≡ endOf (readExpr s v d at)
+      unfolding coded constantAt endOf
       constant-read g i = let j : at + 1 + 4 ≤ length s = omega arith in rw (here, h, g) (simp (le-leb _ _ j))
 
-      pub variable-read : (r : Read) → x ≡ Variable → r ≡ answerOf (readBelow s v (at + 1)) → r ≡ answerOf (readExpr s v d at)
+      pub variable-read : (r : Answer) → x ≡ Variable → reachedBy r ≡ endOf (readBelow s v (at + 1)) → reachedBy r ≡ endOf (readExpr s v d at)
       unfolding coded
       variable-read r g i = rw (here, h, g) (i ∙ then-last (readBelow s v (at + 1)) variable)
 
-      module _ (o : Operator) (g : x ≡ Binary o) (a : Read) (i : a ≡ answerOf (readExpr s v (d - 1) (at + 1))) where
-        pub binary-first : (b c : ℕ) → a ≡ Bad b c → a ≡ answerOf (readExpr s v d at)
+      module _ (o : Operator) (g : x ≡ Binary o) (a : Answer) (i : reachedBy a ≡ endOf (readExpr s v (d - 1) (at + 1))) where
+        pub binary-first : (b c : ℕ) → a ≡ Refused b c → reachedBy a ≡ endOf (readExpr s v d at)
         unfolding coded binaryAt
-        binary-first b c j = rw (here, h, g) (then-bad (readExpr s v (d - 1) (at + 1)) _ b c a i j)
+        binary-first b c j = rw (here, h, g) (then-refused (readExpr s v (d - 1) (at + 1)) _ i j)
 
-        pub binary-second : (mid : ℕ) (r : Read) → a ≡ At mid → r ≡ answerOf (readExpr s v (d - 1) mid) → r ≡ answerOf (readExpr s v d at)
+        pub binary-second : (mid : ℕ) (r : Answer) → a ≡ At mid → reachedBy r ≡ endOf (readExpr s v (d - 1) mid) → reachedBy r ≡ endOf (readExpr s v d at)
         unfolding coded binaryAt
         binary-second mid r j m =
-            rw (here, h, g) (then-at (readExpr s v (d - 1) (at + 1)) _ mid r (sym i ∙ j) (λ y _. m ∙ then-last (readExpr s v (d - 1) mid) (binary (modelOperator o) y)))
+            rw (here, h, g) (then-at (readExpr s v (d - 1) (at + 1)) _ i j (λ y. m ∙ then-last (readExpr s v (d - 1) mid) (binary (modelOperator o) y)))
 
 pub ruleset expressions = (expr-deep, expr-missing, expr-unknown, constant-missing, constant-read, variable-read, binary-first, binary-second)

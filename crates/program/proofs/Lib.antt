@@ -1,6 +1,8 @@
-mod CodeLaws
+pub mod CodeLaws
 mod AnswerLaws
 mod AtomLaws
+mod EntryLaws
 mod ExpressionLaws
 mod StatementLaws
-mod HeadLaws
+mod FileLaws
+mod LayoutLaws

@@ -1,5 +1,5 @@
 -- A law for each return of statements.rt: the definition goes by the code, with one less of depth for what it holds.
-use mathlib.Core.Path.{_≡_, refl, sym, _∙_}
+use mathlib.Core.Path.{_≡_, refl, _∙_}
 use Prim.Native.Nat.{ℕ, zero, suc, _+_, _-_, _<_, _≤_}
 use mathlib.Core.List.{List}
 use mathlib.Core.Bool.{Bool, true, false, cond}
@@ -12,45 +12,45 @@ use Rattle.model.specs.Number.{programCode}
 use Rattle.model.specs.Bytes.{byte}
 use Rattle.model.specs.Syntax.{Stmt, skip, if, while, query, transaction}
 use Rattle.model.specs.Program.{Read as Reading, got, bad, andThen, readByte, readBelow, readMany, readExpr, readQuery, readMutation, blockOf, assignAt, blockAt, ifAt, whileAt, queryAt, updateAt, transactionAt, stmtAt, readStmt}
-use Rattle.program.specs.declared.answer.Read.{Read}
-use Rattle.program.specs.declared.answer.Read.the-variants.{At, Bad}
+use Rattle.program.specs.declared.answer.Answer.{Answer}
+use Rattle.program.specs.declared.answer.Answer.the-variants.{At, Refused}
 use Rattle.program.specs.declared.codes.Statement.{Statement}
 use Rattle.program.specs.declared.codes.Statement.the-variants.{Skip, Assign, Block, If, While, Query, Update, Transaction}
 use Rattle.program.specs.declared.codes.StatementOf.{StatementOf}
 use Rattle.program.specs.declared.codes.StatementOf.the-variants.{Is, No}
-use Rattle.program.specs.Answer.{answerOf, readAssign, readUpdate}
+use Rattle.program.specs.Answer.{reached, stopped, reachedBy, endOf, readAssign, readUpdate}
 use Rattle.program.specs.Codes.{statementOf}
-use Rattle.program.proofs.AnswerLaws.{then-at, then-bad, then-last, then-end, then-same, pick-same, byte-there, byte-missing, many}
+use Rattle.program.proofs.AnswerLaws.{then-at, then-refused, then-last, then-end, then-same, pick-same, byte-there, byte-missing, many}
 
 -- an assignment
-module _ (s : List ℕ) (v at : ℕ) (a : Read) (e : a ≡ answerOf (readBelow s v at)) where
-  pub assign-target : (b c : ℕ) → a ≡ Bad b c → a ≡ answerOf (readAssign s v at)
+module _ (s : List ℕ) (v at : ℕ) (a : Answer) (e : reachedBy a ≡ endOf (readBelow s v at)) where
+  pub assign-target : (b c : ℕ) → a ≡ Refused b c → reachedBy a ≡ endOf (readAssign s v at)
   unfolding readAssign
-  assign-target b c h = then-bad (readBelow s v at) _ b c a e h
+  assign-target b c h = then-refused (readBelow s v at) _ e h
 
-  pub assign-value : (mid : ℕ) (r : Read) → a ≡ At mid → r ≡ answerOf (readExpr s v 16 mid) → r ≡ answerOf (readAssign s v at)
+  pub assign-value : (mid : ℕ) (r : Answer) → a ≡ At mid → reachedBy r ≡ endOf (readExpr s v 16 mid) → reachedBy r ≡ endOf (readAssign s v at)
   unfolding readAssign
-  assign-value mid r h g = then-at (readBelow s v at) _ mid r (sym e ∙ h) (λ x _. g)
+  assign-value mid r h g = then-at (readBelow s v at) _ e h (λ x. g)
 
 pub ruleset assigns = (assign-target, assign-value)
 
 -- an update
 module _ (s : List ℕ) (P R at : ℕ) where
-  pub update-missing : length s ≤ at → Bad 10 (length s) ≡ answerOf (readUpdate s P R at)
+  pub update-missing : length s ≤ at → stopped 10 (length s) ≡ endOf (readUpdate s P R at)
   unfolding readUpdate
   update-missing h = byte-missing s at _ h
 
   module _ (l : at < length s) where
-    pub update-none : byte s at ≡ 0 → Bad 13 at ≡ answerOf (readUpdate s P R at)
-    unfolding readUpdate answerOf
+    pub update-none : byte s at ≡ 0 → stopped 13 at ≡ endOf (readUpdate s P R at)
+    unfolding readUpdate endOf
     update-none e = rw (byte-there s at _ l, e)
 
     module _ (n : byte s at ≡ 0 → ⊥) where
-      pub update-many : 16 < byte s at → Bad 13 at ≡ answerOf (readUpdate s P R at)
-      unfolding readUpdate answerOf
+      pub update-many : 16 < byte s at → stopped 13 at ≡ endOf (readUpdate s P R at)
+      unfolding readUpdate endOf
       update-many h = let g : 0 < byte s at = omega arith in rw (byte-there s at _ l) (simp (lt-ltb _ _ g, lt-leb _ _ h))
 
-      pub update-read : (r : Read) → byte s at ≤ 16 → r ≡ answerOf (readMany (readMutation s P R) (byte s at) (at + 1)) → r ≡ answerOf (readUpdate s P R at)
+      pub update-read : (r : Answer) → byte s at ≤ 16 → reachedBy r ≡ endOf (readMany (readMutation s P R) (byte s at) (at + 1)) → reachedBy r ≡ endOf (readUpdate s P R at)
       unfolding readUpdate
       update-read r h e =
           let g : (byte s at ≡ 0 → ⊥) → 0 < byte s at = λ m. omega arith in
@@ -60,97 +60,95 @@ pub ruleset updates = (update-missing, update-none, update-many, update-read)
 
 module _ (s : List ℕ) (P R v : ℕ) (sub : ℕ → Reading Stmt) where
   -- a block: its loop begins with all its statements left
-  pub block-missing : (at : ℕ) → length s ≤ at → Bad 10 (length s) ≡ answerOf (blockAt s P R v sub at)
+  pub block-missing : (at : ℕ) → length s ≤ at → stopped 10 (length s) ≡ endOf (blockAt s P R v sub at)
   unfolding blockAt
   block-missing at h = byte-missing s at _ h
 
-  pub block-begins : (at : ℕ) → at < length s → answerOf (readMany sub (byte s at) (at + 1)) ≡ answerOf (blockAt s P R v sub at)
+  pub block-begins : (at : ℕ) → at < length s → endOf (readMany sub (byte s at) (at + 1)) ≡ endOf (blockAt s P R v sub at)
   unfolding blockAt
   block-begins at l = rw (byte-there s at _ l) (then-last (readMany sub (byte s at) (at + 1)) blockOf)
 
   -- an if and a while: the test, then what they hold
-  module _ (at : ℕ) (t : Read) (e : t ≡ answerOf (readExpr s v 16 at)) where
-    pub if-test : (b c : ℕ) → t ≡ Bad b c → t ≡ answerOf (ifAt s P R v sub at)
+  module _ (at : ℕ) (t : Answer) (e : reachedBy t ≡ endOf (readExpr s v 16 at)) where
+    pub if-test : (b c : ℕ) → t ≡ Refused b c → reachedBy t ≡ endOf (ifAt s P R v sub at)
     unfolding ifAt
-    if-test b c h = then-bad (readExpr s v 16 at) _ b c t e h
+    if-test b c h = then-refused (readExpr s v 16 at) _ e h
 
-    pub while-test : (b c : ℕ) → t ≡ Bad b c → t ≡ answerOf (whileAt s P R v sub at)
+    pub while-test : (b c : ℕ) → t ≡ Refused b c → reachedBy t ≡ endOf (whileAt s P R v sub at)
     unfolding whileAt
-    while-test b c h = then-bad (readExpr s v 16 at) _ b c t e h
+    while-test b c h = then-refused (readExpr s v 16 at) _ e h
 
-    module _ (p : ℕ) (h : t ≡ At p) (a : Read) (g : a ≡ answerOf (sub p)) where
-      pub while-body : a ≡ answerOf (whileAt s P R v sub at)
+    module _ (p : ℕ) (h : t ≡ At p) (a : Answer) (g : reachedBy a ≡ endOf (sub p)) where
+      pub while-body : reachedBy a ≡ endOf (whileAt s P R v sub at)
       unfolding whileAt
-      while-body = then-at (readExpr s v 16 at) _ p a (sym e ∙ h) (λ x _. g ∙ then-last (sub p) (while x))
+      while-body = then-at (readExpr s v 16 at) _ e h (λ x. g ∙ then-last (sub p) (while x))
 
-      pub if-first : (b c : ℕ) → a ≡ Bad b c → a ≡ answerOf (ifAt s P R v sub at)
+      pub if-first : (b c : ℕ) → a ≡ Refused b c → reachedBy a ≡ endOf (ifAt s P R v sub at)
       unfolding ifAt
-      if-first b c i = then-at (readExpr s v 16 at) _ p a (sym e ∙ h) (λ x _. then-bad (sub p) _ b c a g i)
+      if-first b c i = then-at (readExpr s v 16 at) _ e h (λ x. then-refused (sub p) _ g i)
 
-      pub if-second : (q : ℕ) (r : Read) → a ≡ At q → r ≡ answerOf (sub q) → r ≡ answerOf (ifAt s P R v sub at)
+      pub if-second : (q : ℕ) (r : Answer) → a ≡ At q → reachedBy r ≡ endOf (sub q) → reachedBy r ≡ endOf (ifAt s P R v sub at)
       unfolding ifAt
       if-second q r i j =
-          then-at (readExpr s v 16 at) _ p r (sym e ∙ h)
-          (λ x _. then-at (sub p) _ q r (sym g ∙ i) (λ y _. j ∙ then-last (sub q) (if x y)))
+          then-at (readExpr s v 16 at) _ e h (λ x. then-at (sub p) _ g i (λ y. j ∙ then-last (sub q) (if x y)))
 
   -- a query: its atoms, then what it holds
-  module _ (place at : ℕ) (t : Read) (e : t ≡ answerOf (readQuery s R at)) where
-    pub query-atoms : (b c : ℕ) → t ≡ Bad b c → t ≡ answerOf (queryAt s P R v sub place at)
+  module _ (place at : ℕ) (t : Answer) (e : reachedBy t ≡ endOf (readQuery s R at)) where
+    pub query-atoms : (b c : ℕ) → t ≡ Refused b c → reachedBy t ≡ endOf (queryAt s P R v sub place at)
     unfolding queryAt
-    query-atoms b c h = then-bad (readQuery s R at) _ b c t e h
+    query-atoms b c h = then-refused (readQuery s R at) _ e h
 
-    module _ (p : ℕ) (h : t ≡ At p) (a : Read) (g : a ≡ answerOf (sub p)) where
-      pub query-first : (b c : ℕ) → a ≡ Bad b c → a ≡ answerOf (queryAt s P R v sub place at)
+    module _ (p : ℕ) (h : t ≡ At p) (a : Answer) (g : reachedBy a ≡ endOf (sub p)) where
+      pub query-first : (b c : ℕ) → a ≡ Refused b c → reachedBy a ≡ endOf (queryAt s P R v sub place at)
       unfolding queryAt
-      query-first b c i = then-at (readQuery s R at) _ p a (sym e ∙ h) (λ x _. then-bad (sub p) _ b c a g i)
+      query-first b c i = then-at (readQuery s R at) _ e h (λ x. then-refused (sub p) _ g i)
 
-      pub query-second : (q : ℕ) (r : Read) → a ≡ At q → r ≡ answerOf (sub q) → r ≡ answerOf (queryAt s P R v sub place at)
+      pub query-second : (q : ℕ) (r : Answer) → a ≡ At q → reachedBy r ≡ endOf (sub q) → reachedBy r ≡ endOf (queryAt s P R v sub place at)
       unfolding queryAt
       query-second q r i j =
-          then-at (readQuery s R at) _ p r (sym e ∙ h)
-          (λ x _. then-at (sub p) _ q r (sym g ∙ i) (λ y _. j ∙ then-last (sub q) (query place x y)))
+          then-at (readQuery s R at) _ e h (λ x. then-at (sub p) _ g i (λ y. j ∙ then-last (sub q) (query place x y)))
 
   -- a transaction: n, its list, its body
   module _ (place at : ℕ) where
-    pub transaction-missing : length s ≤ at → Bad 10 (length s) ≡ answerOf (transactionAt s P R v sub place at)
+    pub transaction-missing : length s ≤ at → stopped 10 (length s) ≡ endOf (transactionAt s P R v sub place at)
     unfolding transactionAt
     transaction-missing h = byte-missing s at _ h
 
     module _ (l : at < length s) where
-      pub transaction-many : 16 < byte s at → Bad 13 at ≡ answerOf (transactionAt s P R v sub place at)
-      unfolding transactionAt answerOf
+      pub transaction-many : 16 < byte s at → stopped 13 at ≡ endOf (transactionAt s P R v sub place at)
+      unfolding transactionAt endOf
       transaction-many h = rw (byte-there s at _ l) (simp (lt-leb _ _ h))
 
-      module _ (n : byte s at ≤ 16) (t : Read) (e : t ≡ answerOf (readMany (readQuery s R) (byte s at) (at + 1))) where
-        pub transaction-list : (b c : ℕ) → t ≡ Bad b c → t ≡ answerOf (transactionAt s P R v sub place at)
+      module _ (n : byte s at ≤ 16) (t : Answer) (e : reachedBy t ≡ endOf (readMany (readQuery s R) (byte s at) (at + 1))) where
+        pub transaction-list : (b c : ℕ) → t ≡ Refused b c → reachedBy t ≡ endOf (transactionAt s P R v sub place at)
         unfolding transactionAt
         transaction-list b c h =
-            rw (byte-there s at _ l) (simp (le-leb _ _ n) (then-bad (readMany (readQuery s R) (byte s at) (at + 1)) _ b c t e h))
+            rw (byte-there s at _ l) (simp (le-leb _ _ n) (then-refused (readMany (readQuery s R) (byte s at) (at + 1)) _ e h))
 
-        pub transaction-body : (p : ℕ) (r : Read) → t ≡ At p → r ≡ answerOf (sub p) → r ≡ answerOf (transactionAt s P R v sub place at)
+        pub transaction-body : (p : ℕ) (r : Answer) → t ≡ At p → reachedBy r ≡ endOf (sub p) → reachedBy r ≡ endOf (transactionAt s P R v sub place at)
         unfolding transactionAt
         transaction-body p r h g =
             rw (byte-there s at _ l)
-            (simp (le-leb _ _ n) (then-at (readMany (readQuery s R) (byte s at) (at + 1)) _ p r (sym e ∙ h) (λ qs _. g ∙ then-end (sub p) (λ a end. transaction place p end qs a))))
+            (simp (le-leb _ _ n) (then-at (readMany (readQuery s R) (byte s at) (at + 1)) _ e h (λ qs. g ∙ then-end (sub p) (λ a end. transaction place p end qs a))))
 
   -- an answer does not keep the place
-  assign-same : (at next : ℕ) → answerOf (readAssign s v next) ≡ answerOf (assignAt s P R v sub at next)
+  assign-same : (at next : ℕ) → endOf (readAssign s v next) ≡ endOf (assignAt s P R v sub at next)
   unfolding readAssign assignAt
   assign-same at next = then-same (readBelow s v next) _ _ (λ x mid. then-last (readExpr s v 16 mid) _)
 
-  update-same : (at next : ℕ) → answerOf (readUpdate s P R next) ≡ answerOf (updateAt s P R v sub at next)
+  update-same : (at next : ℕ) → endOf (readUpdate s P R next) ≡ endOf (updateAt s P R v sub at next)
   unfolding readUpdate updateAt
   update-same at next =
       then-same (readByte s next) _ _
       (λ n mid. pick-same (ltb 0 n) _ _ _ _ (pick-same (leb n 16) _ _ _ _ (then-last (readMany (readMutation s P R) n mid) _)))
 
-  query-same : (at place next : ℕ) → answerOf (queryAt s P R v sub place next) ≡ answerOf (queryAt s P R v sub at next)
-  unfolding queryAt answerOf
+  query-same : (at place next : ℕ) → endOf (queryAt s P R v sub place next) ≡ endOf (queryAt s P R v sub at next)
+  unfolding queryAt endOf
   query-same at place next =
       then-same (readQuery s R next) _ _ (λ x p. then-same (sub p) _ _ (λ y q. then-same (sub q) _ _ (λ z end. refl)))
 
-  transaction-same : (at place next : ℕ) → answerOf (transactionAt s P R v sub place next) ≡ answerOf (transactionAt s P R v sub at next)
-  unfolding transactionAt answerOf
+  transaction-same : (at place next : ℕ) → endOf (transactionAt s P R v sub place next) ≡ endOf (transactionAt s P R v sub at next)
+  unfolding transactionAt endOf
   transaction-same at place next =
       then-same (readByte s next) _ _
       (λ n mid. pick-same (leb n 16) _ _ _ _ (then-same (readMany (readQuery s R) n mid) _ _ (λ x p. then-same (sub p) _ _ (λ y end. refl))))
@@ -197,8 +195,8 @@ pub ruleset queries = (query-atoms, query-first, query-second)
 
 pub ruleset transactions = (transaction-missing, transaction-many, transaction-list, transaction-body)
 
-pub stmt-deep : (s : List ℕ) (P R v d at : ℕ) → d ≡ 0 → Bad 14 at ≡ answerOf (readStmt s P R v d at)
-unfolding readStmt answerOf
+pub stmt-deep : (s : List ℕ) (P R v d at : ℕ) → d ≡ 0 → stopped 14 at ≡ endOf (readStmt s P R v d at)
+unfolding readStmt endOf
 stmt-deep s P R v d at e = rw e
 
 step : (s : List ℕ) (P R v d at : ℕ) → (d ≡ 0 → ⊥) → readStmt s P R v d at ≡ andThen (readByte s at) (stmtAt s P R v (readStmt s P R v (d - 1)) at)
@@ -207,48 +205,48 @@ step s P R v zero at f = absurd (f refl)
 step s P R v (suc d) at f = rw sub-one
 
 module _ (s : List ℕ) (P R v d at : ℕ) (f : d ≡ 0 → ⊥) where
-  pub stmt-missing : length s ≤ at → Bad 10 (length s) ≡ answerOf (readStmt s P R v d at)
+  pub stmt-missing : length s ≤ at → stopped 10 (length s) ≡ endOf (readStmt s P R v d at)
   stmt-missing h = rw (step s P R v d at f) (byte-missing s at _ h)
 
   module _ (l : at < length s) (k : StatementOf) (e : k ≡ statementOf (byte s at)) where
     here : readStmt s P R v d at ≡ coded s P R v (readStmt s P R v (d - 1)) at (at + 1) k
     here = step s P R v d at f ∙ byte-there s at _ l ∙ by-code s P R v (readStmt s P R v (d - 1)) at (at + 1) (byte s at) ∙ rw e
 
-    pub stmt-unknown : k ≡ No → Bad 12 at ≡ answerOf (readStmt s P R v d at)
-    unfolding coded answerOf
+    pub stmt-unknown : k ≡ No → stopped 12 at ≡ endOf (readStmt s P R v d at)
+    unfolding coded endOf
     stmt-unknown h = rw (here, h)
 
     module _ (x : Statement) (h : k ≡ Is x) where
-      pub stmt-skip : x ≡ Skip → At (at + 1) ≡ answerOf (readStmt s P R v d at)
-      unfolding coded answerOf
+      pub stmt-skip : x ≡ Skip → reached (at + 1) ≡ endOf (readStmt s P R v d at)
+      unfolding coded endOf
       stmt-skip g = rw (here, h, g)
 
-      module _ (r : Read) where
-        pub stmt-assign : x ≡ Assign → r ≡ answerOf (readAssign s v (at + 1)) → r ≡ answerOf (readStmt s P R v d at)
+      module _ (r : Answer) where
+        pub stmt-assign : x ≡ Assign → reachedBy r ≡ endOf (readAssign s v (at + 1)) → reachedBy r ≡ endOf (readStmt s P R v d at)
         unfolding coded
         stmt-assign g i = rw (here, h, g) (i ∙ assign-same s P R v (readStmt s P R v (d - 1)) at (at + 1))
 
-        pub stmt-block : x ≡ Block → r ≡ answerOf (blockAt s P R v (readStmt s P R v (d - 1)) (at + 1)) → r ≡ answerOf (readStmt s P R v d at)
+        pub stmt-block : x ≡ Block → reachedBy r ≡ endOf (blockAt s P R v (readStmt s P R v (d - 1)) (at + 1)) → reachedBy r ≡ endOf (readStmt s P R v d at)
         unfolding coded
         stmt-block g i = rw (here, h, g) i
 
-        pub stmt-if : x ≡ If → r ≡ answerOf (ifAt s P R v (readStmt s P R v (d - 1)) (at + 1)) → r ≡ answerOf (readStmt s P R v d at)
+        pub stmt-if : x ≡ If → reachedBy r ≡ endOf (ifAt s P R v (readStmt s P R v (d - 1)) (at + 1)) → reachedBy r ≡ endOf (readStmt s P R v d at)
         unfolding coded
         stmt-if g i = rw (here, h, g) i
 
-        pub stmt-while : x ≡ While → r ≡ answerOf (whileAt s P R v (readStmt s P R v (d - 1)) (at + 1)) → r ≡ answerOf (readStmt s P R v d at)
+        pub stmt-while : x ≡ While → reachedBy r ≡ endOf (whileAt s P R v (readStmt s P R v (d - 1)) (at + 1)) → reachedBy r ≡ endOf (readStmt s P R v d at)
         unfolding coded
         stmt-while g i = rw (here, h, g) i
 
-        pub stmt-query : (place : ℕ) → x ≡ Query → r ≡ answerOf (queryAt s P R v (readStmt s P R v (d - 1)) place (at + 1)) → r ≡ answerOf (readStmt s P R v d at)
+        pub stmt-query : (place : ℕ) → x ≡ Query → reachedBy r ≡ endOf (queryAt s P R v (readStmt s P R v (d - 1)) place (at + 1)) → reachedBy r ≡ endOf (readStmt s P R v d at)
         unfolding coded
         stmt-query place g i = rw (here, h, g) (i ∙ query-same s P R v (readStmt s P R v (d - 1)) at place (at + 1))
 
-        pub stmt-update : x ≡ Update → r ≡ answerOf (readUpdate s P R (at + 1)) → r ≡ answerOf (readStmt s P R v d at)
+        pub stmt-update : x ≡ Update → reachedBy r ≡ endOf (readUpdate s P R (at + 1)) → reachedBy r ≡ endOf (readStmt s P R v d at)
         unfolding coded
         stmt-update g i = rw (here, h, g) (i ∙ update-same s P R v (readStmt s P R v (d - 1)) at (at + 1))
 
-        pub stmt-transaction : (place : ℕ) → x ≡ Transaction → r ≡ answerOf (transactionAt s P R v (readStmt s P R v (d - 1)) place (at + 1)) → r ≡ answerOf (readStmt s P R v d at)
+        pub stmt-transaction : (place : ℕ) → x ≡ Transaction → reachedBy r ≡ endOf (transactionAt s P R v (readStmt s P R v (d - 1)) place (at + 1)) → reachedBy r ≡ endOf (readStmt s P R v d at)
         unfolding coded
         stmt-transaction place g i = rw (here, h, g) (i ∙ transaction-same s P R v (readStmt s P R v (d - 1)) at place (at + 1))
 

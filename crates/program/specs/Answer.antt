@@ -1,18 +1,30 @@
--- What the code answers of a reading of the model: where it ended, or its number and place. The tree is not kept.
+-- What an answer of the code says, and what the model's readings say in the same words.
 use Prim.Native.Nat.{ℕ, suc, _*_}
 use mathlib.Core.List.{List}
 use mathlib.Core.Bool.{cond}
 use lib.Dec.{ltb, leb}
+use Rattle.model.specs.Limits.{variableLimit, expressionDepth, listLimit}
 use Rattle.model.specs.Number.{programRange}
 use Rattle.model.specs.Mutation.{Mutation}
 use Rattle.model.specs.Syntax.{Expr, Stmt}
-use Rattle.model.specs.Program.{Read as Reading, got, bad, andThen, readByte, readBelow, readMany, readLabel, readMutation, readExpr, readBody, expressionDepth, listLimit, variableLimit}
-use Rattle.program.specs.declared.answer.Read.{Read}
-use Rattle.program.specs.declared.answer.Read.the-variants.{At, Bad}
+use Rattle.model.specs.Program.{Read as Reading, got, bad, andThen, readByte, readBelow, readMany, readLabel, readMutation, readExpr, readBody}
+use Rattle.program.specs.declared.answer.Answer.{Answer}
+use Rattle.program.specs.declared.answer.Answer.the-variants.{At, Refused}
 
-unfoldable pub answerOf : {A : Type 0} → Reading A → Read
-answerOf (got x next) = At next
-answerOf (bad k place) = Bad k place
+-- how far reading or checking came: to a position, or to document 01's number at the place that shows it
+pub data Reached : Type 0 where
+  reached : (position : ℕ) → Reached
+  stopped : (number place : ℕ) → Reached
+
+-- what an answer says
+abbrev pub reachedBy : Answer → Reached
+reachedBy (At position) = reached position
+reachedBy (Refused number place) = stopped number place
+
+-- how far a reading of the model came; the tree is not kept
+unfoldable pub endOf : {A : Type 0} → Reading A → Reached
+endOf (got x next) = reached next
+endOf (bad number place) = stopped number place
 
 -- Parts of the model's readings that have no name there.
 

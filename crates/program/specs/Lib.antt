@@ -1,2 +1,4 @@
 pub mod Answer
 pub mod Codes
+pub mod Entries
+pub mod Layout

@@ -1,5 +1,6 @@
-// What reading finds: the position after what was read, or document 01's number and the place that shows it.
-pub enum Read {
+// What reading a program and checking it answer: the position after what was gone through, or document 01's number and the
+// place that shows it.
+pub enum Answer {
     At(usize),
-    Bad(u32, usize),
+    Refused(u32, usize),
 }

@@ -1,42 +1,42 @@
 // Reading an expression, which calls itself with the remaining depth falling.
 ghost use mathlib.Core.Path.{_≡_};
 ghost use Rattle.model.specs.Program.{readExpr};
-ghost use Rattle.program.specs.Answer.{answerOf};
-use super::answer::Read;
+ghost use Rattle.program.specs.Answer.{reachedBy, endOf};
+use super::answer::Answer;
 use super::atoms;
 use super::codes;
 use super::codes::Expression;
 use super::codes::ExpressionOf;
-use policy::number;
+use shared::number;
 
 // Too deep is 14 before the code is read.
-pub fn read_expr(s: &[u8], vars: u8, depth: u8, at: usize) -> Read
-    ensures { λ r. ⌜ r ≡ answerOf (readExpr (now (s .entry)) vars depth at) ⌝ }
+pub fn read_expr(program: &[u8], vars: u8, depth: u8, at: usize) -> Answer
+    ensures { λ r. ⌜ reachedBy r ≡ endOf (readExpr (now (program .entry)) vars depth at) ⌝ }
 {
     if depth == 0 {
-        return Read::Bad(number::PROGRAM_DEPTH, at);
+        return Answer::Refused(number::PROGRAM_DEPTH, at);
     }
-    if s.len() <= at {
-        return Read::Bad(number::PROGRAM_LENGTH, s.len());
+    if program.len() <= at {
+        return Answer::Refused(number::PROGRAM_LENGTH, program.len());
     }
     let next = at + 1;
-    let ExpressionOf::Is(code) = codes::expression_of(s[at]) else {
-        return Read::Bad(number::PROGRAM_CODE, at);
+    let ExpressionOf::Is(code) = codes::expression_of(program[at]) else {
+        return Answer::Refused(number::PROGRAM_CODE, at);
     };
     match code {
         Expression::Constant => {
-            if s.len() - next < 4 {
-                return Read::Bad(number::PROGRAM_LENGTH, s.len());
+            if program.len() - next < 4 {
+                return Answer::Refused(number::PROGRAM_LENGTH, program.len());
             }
-            Read::At(next + 4)
+            Answer::At(next + 4)
         }
-        Expression::Variable => atoms::read_below(s, vars, next),
+        Expression::Variable => atoms::read_below(program, vars, next),
         Expression::Binary(_) => {
-            let first = read_expr(s, vars, depth - 1, next);
-            let Read::At(mid) = first else {
+            let first = read_expr(program, vars, depth - 1, next);
+            let Answer::At(mid) = first else {
                 return first;
             };
-            read_expr(s, vars, depth - 1, mid)
+            read_expr(program, vars, depth - 1, mid)
         }
     }
 }

@@ -2,7 +2,8 @@
 pub mod answer;
 pub mod atoms;
 pub mod codes;
+pub mod entries;
 pub mod expressions;
-pub mod head;
-pub mod limit;
+pub mod file;
+pub mod layout;
 pub mod statements;

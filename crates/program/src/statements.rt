@@ -3,146 +3,162 @@
 ghost use mathlib.Core.Path.{_≡_};
 ghost use Prim.Native.Nat.{_-_};
 ghost use Rattle.model.specs.Program.{readStmt, blockAt, ifAt, whileAt, queryAt, transactionAt};
-ghost use Rattle.program.specs.Answer.{answerOf, readAssign, readUpdate};
-use super::answer::Read;
+ghost use Rattle.program.specs.Answer.{reachedBy, endOf, readAssign, readUpdate};
+use super::answer::Answer;
 use super::atoms;
 use super::codes;
 use super::codes::Statement;
 use super::codes::StatementOf;
+use super::entries;
+use super::entries::Entry;
 use super::expressions;
-use super::limit;
-use policy::number;
+use shared::limit;
+use shared::number;
 
 // Too deep is 14 before the code is read.
-pub fn read_stmt(s: &[u8], principals: u8, roles: u8, vars: u8, depth: u8, at: usize) -> Read
-    ensures { λ r. ⌜ r ≡ answerOf (readStmt (now (s .entry)) principals roles vars depth at) ⌝ }
+pub fn read_stmt(
+    program: &[u8],
+    principals: u8,
+    roles: u8,
+    vars: u8,
+    depth: u8,
+    at: usize,
+) -> Answer
+    ensures { λ r. ⌜ reachedBy r ≡ endOf (readStmt (now (program .entry)) principals roles vars depth at) ⌝ }
 {
     if depth == 0 {
-        return Read::Bad(number::PROGRAM_DEPTH, at);
+        return Answer::Refused(number::PROGRAM_DEPTH, at);
     }
-    if s.len() <= at {
-        return Read::Bad(number::PROGRAM_LENGTH, s.len());
+    if program.len() <= at {
+        return Answer::Refused(number::PROGRAM_LENGTH, program.len());
     }
     let next = at + 1;
     let inner = depth - 1;
-    let StatementOf::Is(code) = codes::statement_of(s[at]) else {
-        return Read::Bad(number::PROGRAM_CODE, at);
+    let StatementOf::Is(code) = codes::statement_of(program[at]) else {
+        return Answer::Refused(number::PROGRAM_CODE, at);
     };
     match code {
-        Statement::Skip => Read::At(next),
-        Statement::Assign => read_assign(s, vars, next),
-        Statement::Block => read_block(s, principals, roles, vars, inner, next),
-        Statement::If => read_if(s, principals, roles, vars, inner, next),
-        Statement::While => read_while(s, principals, roles, vars, inner, next),
-        Statement::Query => read_query(s, principals, roles, vars, inner, next),
-        Statement::Update => read_update(s, principals, roles, next),
-        Statement::Transaction => read_transaction(s, principals, roles, vars, inner, next),
+        Statement::Skip => Answer::At(next),
+        Statement::Assign => read_assign(program, vars, next),
+        Statement::Block => read_block(program, principals, roles, vars, inner, next),
+        Statement::If => read_if(program, principals, roles, vars, inner, next),
+        Statement::While => read_while(program, principals, roles, vars, inner, next),
+        Statement::Query => read_query(program, principals, roles, vars, inner, next),
+        Statement::Update => read_update(program, principals, roles, next),
+        Statement::Transaction => read_transaction(program, principals, roles, vars, inner, next),
     }
 }
 
 // A variable, an expression.
-fn read_assign(s: &[u8], vars: u8, at: usize) -> Read
-    ensures { λ r. ⌜ r ≡ answerOf (readAssign (now (s .entry)) vars at) ⌝ }
+fn read_assign(program: &[u8], vars: u8, at: usize) -> Answer
+    ensures { λ r. ⌜ reachedBy r ≡ endOf (readAssign (now (program .entry)) vars at) ⌝ }
 {
-    let target = atoms::read_below(s, vars, at);
-    let Read::At(next) = target else {
+    let target = atoms::read_below(program, vars, at);
+    let Answer::At(next) = target else {
         return target;
     };
-    expressions::read_expr(s, vars, limit::EXPRESSION_DEPTH, next)
+    expressions::read_expr(program, vars, limit::EXPRESSION_DEPTH, next)
 }
 
 // n, n statements.
-fn read_block(s: &[u8], principals: u8, roles: u8, vars: u8, depth: u8, at: usize) -> Read
-    ensures { λ r. ⌜ r ≡ answerOf (blockAt (now (s .entry)) principals roles vars (readStmt (now (s .entry)) principals roles vars depth) at) ⌝ }
+fn read_block(program: &[u8], principals: u8, roles: u8, vars: u8, depth: u8, at: usize) -> Answer
+    ensures { λ r. ⌜ reachedBy r ≡ endOf (blockAt (now (program .entry)) principals roles vars (readStmt (now (program .entry)) principals roles vars depth) at) ⌝ }
 {
-    if s.len() <= at {
-        return Read::Bad(number::PROGRAM_LENGTH, s.len());
+    if program.len() <= at {
+        return Answer::Refused(number::PROGRAM_LENGTH, program.len());
     }
-    let mut left = s[at];
+    let mut left = program[at];
     let mut next = at + 1;
     while 0 < left {
-        let one = read_stmt(s, principals, roles, vars, depth, next);
-        let Read::At(end) = one else {
+        let one = read_stmt(program, principals, roles, vars, depth, next);
+        let Answer::At(end) = one else {
             return one;
         };
         next = end;
         left -= 1;
     }
-    Read::At(next)
+    Answer::At(next)
 }
 
 // An expression, two statements.
-fn read_if(s: &[u8], principals: u8, roles: u8, vars: u8, depth: u8, at: usize) -> Read
-    ensures { λ r. ⌜ r ≡ answerOf (ifAt (now (s .entry)) principals roles vars (readStmt (now (s .entry)) principals roles vars depth) at) ⌝ }
+fn read_if(program: &[u8], principals: u8, roles: u8, vars: u8, depth: u8, at: usize) -> Answer
+    ensures { λ r. ⌜ reachedBy r ≡ endOf (ifAt (now (program .entry)) principals roles vars (readStmt (now (program .entry)) principals roles vars depth) at) ⌝ }
 {
-    let test = expressions::read_expr(s, vars, limit::EXPRESSION_DEPTH, at);
-    let Read::At(first) = test else {
+    let test = expressions::read_expr(program, vars, limit::EXPRESSION_DEPTH, at);
+    let Answer::At(first) = test else {
         return test;
     };
-    let taken = read_stmt(s, principals, roles, vars, depth, first);
-    let Read::At(second) = taken else {
+    let taken = read_stmt(program, principals, roles, vars, depth, first);
+    let Answer::At(second) = taken else {
         return taken;
     };
-    read_stmt(s, principals, roles, vars, depth, second)
+    read_stmt(program, principals, roles, vars, depth, second)
 }
 
 // An expression, a statement.
-fn read_while(s: &[u8], principals: u8, roles: u8, vars: u8, depth: u8, at: usize) -> Read
-    ensures { λ r. ⌜ r ≡ answerOf (whileAt (now (s .entry)) principals roles vars (readStmt (now (s .entry)) principals roles vars depth) at) ⌝ }
+fn read_while(program: &[u8], principals: u8, roles: u8, vars: u8, depth: u8, at: usize) -> Answer
+    ensures { λ r. ⌜ reachedBy r ≡ endOf (whileAt (now (program .entry)) principals roles vars (readStmt (now (program .entry)) principals roles vars depth) at) ⌝ }
 {
-    let test = expressions::read_expr(s, vars, limit::EXPRESSION_DEPTH, at);
-    let Read::At(body) = test else {
+    let test = expressions::read_expr(program, vars, limit::EXPRESSION_DEPTH, at);
+    let Answer::At(body) = test else {
         return test;
     };
-    read_stmt(s, principals, roles, vars, depth, body)
+    read_stmt(program, principals, roles, vars, depth, body)
 }
 
 // Two atoms, two statements.
-fn read_query(s: &[u8], principals: u8, roles: u8, vars: u8, depth: u8, at: usize) -> Read
-    ensures { λ r. ⌜ r ≡ answerOf (queryAt (now (s .entry)) principals roles vars (readStmt (now (s .entry)) principals roles vars depth) (at - 1) at) ⌝ }
+fn read_query(program: &[u8], principals: u8, roles: u8, vars: u8, depth: u8, at: usize) -> Answer
+    ensures { λ r. ⌜ reachedBy r ≡ endOf (queryAt (now (program .entry)) principals roles vars (readStmt (now (program .entry)) principals roles vars depth) (at - 1) at) ⌝ }
 {
-    let query = atoms::read_query(s, roles, at);
-    let Read::At(first) = query else {
+    let query = atoms::read_query(program, roles, at);
+    let Answer::At(first) = query else {
         return query;
     };
-    let known = read_stmt(s, principals, roles, vars, depth, first);
-    let Read::At(second) = known else {
+    let known = read_stmt(program, principals, roles, vars, depth, first);
+    let Answer::At(second) = known else {
         return known;
     };
-    read_stmt(s, principals, roles, vars, depth, second)
+    read_stmt(program, principals, roles, vars, depth, second)
 }
 
 // n, n mutations; n is 1 to 16.
-fn read_update(s: &[u8], principals: u8, roles: u8, at: usize) -> Read
-    ensures { λ r. ⌜ r ≡ answerOf (readUpdate (now (s .entry)) principals roles at) ⌝ }
+fn read_update(program: &[u8], principals: u8, roles: u8, at: usize) -> Answer
+    ensures { λ r. ⌜ reachedBy r ≡ endOf (readUpdate (now (program .entry)) principals roles at) ⌝ }
 {
-    if s.len() <= at {
-        return Read::Bad(number::PROGRAM_LENGTH, s.len());
+    if program.len() <= at {
+        return Answer::Refused(number::PROGRAM_LENGTH, program.len());
     }
-    let n = s[at];
+    let n = program[at];
     if n == 0 {
-        return Read::Bad(number::PROGRAM_RANGE, at);
+        return Answer::Refused(number::PROGRAM_RANGE, at);
     }
     if limit::LIST < n {
-        return Read::Bad(number::PROGRAM_RANGE, at);
+        return Answer::Refused(number::PROGRAM_RANGE, at);
     }
-    atoms::read_mutations(s, principals, roles, n, at + 1)
+    entries::read_entries(program, principals, roles, Entry::Mutation, n, at + 1)
 }
 
 // n, n atom pairs, a statement; n is 0 to 16.
-fn read_transaction(s: &[u8], principals: u8, roles: u8, vars: u8, depth: u8, at: usize) -> Read
-    ensures { λ r. ⌜ r ≡ answerOf (transactionAt (now (s .entry)) principals roles vars (readStmt (now (s .entry)) principals roles vars depth) (at - 1) at) ⌝ }
+fn read_transaction(
+    program: &[u8],
+    principals: u8,
+    roles: u8,
+    vars: u8,
+    depth: u8,
+    at: usize,
+) -> Answer
+    ensures { λ r. ⌜ reachedBy r ≡ endOf (transactionAt (now (program .entry)) principals roles vars (readStmt (now (program .entry)) principals roles vars depth) (at - 1) at) ⌝ }
 {
-    if s.len() <= at {
-        return Read::Bad(number::PROGRAM_LENGTH, s.len());
+    if program.len() <= at {
+        return Answer::Refused(number::PROGRAM_LENGTH, program.len());
     }
-    let n = s[at];
+    let n = program[at];
     if limit::LIST < n {
-        return Read::Bad(number::PROGRAM_RANGE, at);
+        return Answer::Refused(number::PROGRAM_RANGE, at);
     }
-    let list = atoms::read_queries(s, roles, n, at + 1);
-    let Read::At(body) = list else {
+    let list = entries::read_entries(program, principals, roles, Entry::Query, n, at + 1);
+    let Answer::At(body) = list else {
         return list;
     };
-    read_stmt(s, principals, roles, vars, depth, body)
+    read_stmt(program, principals, roles, vars, depth, body)
 }

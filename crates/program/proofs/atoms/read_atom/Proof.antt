@@ -2,10 +2,6 @@ use Rattle.program.proofs.AtomLaws.{atoms}
 use borrow.Author.Needs.{needs}
 use Rattle.program.proofs.atoms.read_atom.Statement.{statement}
 use Rattle.program.proofs.atoms.read_atom.Tie as tie
-use Rattle.program.proofs.atoms.read_atom.Reads as reads
-use Rattle.program.proofs.atoms.read_atom.Lts as lts
-use Rattle.program.proofs.codes.atom_of.Reads as atom-of-reads
-use Rattle.program.proofs.codes.role_below.Reads as role-below-reads
 
 pub read-atom-spec : {M : Type 1} → statement M
 read-atom-spec =

@@ -2,8 +2,6 @@ use Rattle.program.proofs.AtomLaws.{belows}
 use borrow.Author.Needs.{needs}
 use Rattle.program.proofs.atoms.read_below.Statement.{statement}
 use Rattle.program.proofs.atoms.read_below.Tie as tie
-use Rattle.program.proofs.atoms.read_below.Reads as reads
-use Rattle.program.proofs.atoms.read_below.Lts as lts
 
 pub read-below-spec : {M : Type 1} → statement M
-read-below-spec = tie.close (tie.spec (λ c. search (needs, belows)) (λ c. search needs) (λ c. search (needs, belows)) (λ c. search needs) (λ c. search (needs, belows)))
+read-below-spec = tie.close (tie.spec (λ c. search (needs, belows)) (λ c. search needs) (λ c. search needs) (λ c. search (needs, belows)) (λ c. search (needs, belows)))

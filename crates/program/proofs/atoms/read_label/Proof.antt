@@ -2,10 +2,25 @@ use Rattle.program.proofs.AtomLaws.{labels}
 use borrow.Author.Needs.{needs}
 use Rattle.program.proofs.atoms.read_label.Statement.{statement}
 use Rattle.program.proofs.atoms.read_label.Tie as tie
-use Rattle.program.proofs.atoms.read_label.Reads as reads
-use Rattle.program.proofs.atoms.read_label.Lts as lts
 
 pub read-label-spec : {M : Type 1} → statement M
 read-label-spec =
     tie.close
-    (tie.spec (λ c. search (needs, labels)) (λ c. search needs) (λ c. search needs) (λ c. search (needs, labels)) (λ c. search needs) (λ c. search (needs, labels)) (λ c. search (needs, labels)))
+    (tie.spec
+    (λ c. search (needs, labels))
+    (λ c. search needs)
+    (λ c κs. search needs)
+    (λ c. search needs)
+    (λ c. search needs)
+    (λ c. search (needs, labels))
+    (λ c. search needs)
+    (λ c. search needs)
+    (λ c. search (needs, labels))
+    (λ c. search needs)
+    (λ c. search needs)
+    (λ c. search needs)
+    (λ c. search needs)
+    (λ c. search (needs, labels))
+    (λ c. search (needs, labels))
+    (λ c. search (needs, labels))
+    (λ c. search (needs, labels)))

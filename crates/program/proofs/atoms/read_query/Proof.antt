@@ -2,9 +2,6 @@ use Rattle.program.proofs.AtomLaws.{queries}
 use borrow.Author.Needs.{needs}
 use Rattle.program.proofs.atoms.read_query.Statement.{statement}
 use Rattle.program.proofs.atoms.read_query.Tie as tie
-use Rattle.program.proofs.atoms.read_query.Reads as reads
-use Rattle.program.proofs.atoms.read_query.Lts as lts
-use Rattle.program.proofs.atoms.read_atom.Reads as read-atom-reads
 
 pub read-query-spec : {M : Type 1} → statement M
 read-query-spec =

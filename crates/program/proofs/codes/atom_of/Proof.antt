@@ -2,8 +2,6 @@ use Rattle.program.proofs.CodeLaws.{atoms}
 use borrow.Author.Needs.{needs}
 use Rattle.program.proofs.codes.atom_of.Statement.{statement}
 use Rattle.program.proofs.codes.atom_of.Tie as tie
-use Rattle.program.proofs.codes.atom_of.Reads as reads
-use Rattle.program.proofs.codes.atom_of.Lts as lts
 
 pub atom-of-spec : {M : Type 1} → statement M
 atom-of-spec = tie.close (tie.spec (λ c. search (needs, atoms)) (λ c. search (needs, atoms)) (λ c. search (needs, atoms)) (λ c. search (needs, atoms)) (λ c. search (needs, atoms)))

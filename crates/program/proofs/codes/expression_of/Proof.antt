@@ -2,8 +2,6 @@ use Rattle.program.proofs.CodeLaws.{expressions}
 use borrow.Author.Needs.{needs}
 use Rattle.program.proofs.codes.expression_of.Statement.{statement}
 use Rattle.program.proofs.codes.expression_of.Tie as tie
-use Rattle.program.proofs.codes.expression_of.Reads as reads
-use Rattle.program.proofs.codes.expression_of.Lts as lts
 
 pub expression-of-spec : {M : Type 1} → statement M
 expression-of-spec =

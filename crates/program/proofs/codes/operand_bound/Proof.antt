@@ -2,8 +2,6 @@ use Rattle.program.proofs.CodeLaws.{bounds}
 use borrow.Author.Needs.{needs}
 use Rattle.program.proofs.codes.operand_bound.Statement.{statement}
 use Rattle.program.proofs.codes.operand_bound.Tie as tie
-use Rattle.program.proofs.codes.operand_bound.Reads as reads
-use Rattle.program.proofs.codes.operand_bound.Lts as lts
 
 pub operand-bound-spec : {M : Type 1} → statement M
 operand-bound-spec =

@@ -2,8 +2,6 @@ use Rattle.program.proofs.CodeLaws.{roles-below}
 use borrow.Author.Needs.{needs}
 use Rattle.program.proofs.codes.role_below.Statement.{statement}
 use Rattle.program.proofs.codes.role_below.Tie as tie
-use Rattle.program.proofs.codes.role_below.Reads as reads
-use Rattle.program.proofs.codes.role_below.Lts as lts
 
 pub role-below-spec : {M : Type 1} → statement M
 role-below-spec =

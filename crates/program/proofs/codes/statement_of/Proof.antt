@@ -2,8 +2,6 @@ use Rattle.program.proofs.CodeLaws.{statements}
 use borrow.Author.Needs.{needs}
 use Rattle.program.proofs.codes.statement_of.Statement.{statement}
 use Rattle.program.proofs.codes.statement_of.Tie as tie
-use Rattle.program.proofs.codes.statement_of.Reads as reads
-use Rattle.program.proofs.codes.statement_of.Lts as lts
 
 pub statement-of-spec : {M : Type 1} → statement M
 statement-of-spec =

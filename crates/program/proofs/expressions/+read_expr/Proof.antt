@@ -1,3 +1,5 @@
+-- Reading calls itself only with one less of depth, which is the measure; what the inner readings answer, the laws of the
+-- model's reading put together.
 use Rattle.program.proofs.ExpressionLaws.{expressions}
 use borrow.Author.Needs.{needs}
 use Prim.Native.Nat.{ℕ, _<_}

@@ -1,6 +1,8 @@
+-- A statement calls a part with one less of depth, and a part calls statements with what it was given: twice the depth, and
+-- one more in a part, falls at every call. A block's loop keeps that reading what is left comes to what reading all comes to.
 use mathlib.Core.Path.{_≡_}
 use Rattle.model.specs.Program.{readMany, readStmt, blockAt}
-use Rattle.program.specs.Answer.{answerOf}
+use Rattle.program.specs.Answer.{endOf}
 use Rattle.program.proofs.StatementLaws.{statements, blocks, ifs, whiles, queries, transactions}
 use borrow.Author.Needs.{needs}
 use Prim.Native.Nat.{ℕ, _<_, _+_, _*_}
@@ -24,7 +26,7 @@ use Rattle.program.proofs.statements.+read_block+read_if+read_query+rea
 use Rattle.program.proofs.statements.read_while.Reads as read-while
 use Rattle.program.proofs.statements.read_while.Kinds as read-while-kinds
 use Rattle.program.proofs.statements.+read_block+read_if+read_query+read_stmt+read_transaction+read_while.Lts-read_while as read-while-lts
-use Rattle.program.proofs.atoms.read_queries.Reads as read-queries-reads
+use Rattle.program.proofs.entries.read_entries.Reads as read-entries-reads
 use Rattle.program.proofs.atoms.read_query.Reads as read-query-reads
 use Rattle.program.proofs.codes.statement_of.Reads as statement-of-reads
 use Rattle.program.proofs.expressions.read_expr.Reads as read-expr-reads
@@ -109,7 +111,7 @@ read-while-below t =
     and 1 read-while-kinds.ps (falls 1 read-while-kinds.ps _<_ μ-read-while t) read-while.Pre
 
 abbrev read-block-Inv-loop : read-block-lts.InvT-loop
-read-block-Inv-loop s principals roles vars depth at left₀ next₀ left next = answerOf (readMany (readStmt s principals roles vars depth) left next) ≡ answerOf (blockAt s principals roles vars (readStmt s principals roles vars depth) at)
+read-block-Inv-loop s principals roles vars depth at left₀ next₀ left next = endOf (readMany (readStmt s principals roles vars depth) left next) ≡ endOf (blockAt s principals roles vars (readStmt s principals roles vars depth) at)
 
 abbrev read-block-μ-loop : read-block-lts.MeasureT-loop
 read-block-μ-loop s principals roles vars depth at left₀ next₀ left next = left
@@ -231,8 +233,8 @@ pub +read-block+read-if+read-query+read-stmt+read-transaction+read-while-spec :
     (λ c. search (needs, statements))
     (λ c. search (needs, statements)))
     (λ t. read-transaction-lts.spec (
-      read-queries-reads.Asked,
-      read-queries-reads.Learnt,
+      read-entries-reads.Asked,
+      read-entries-reads.Learnt,
       read-stmt-below t,
       read-stmt.Post,
     )

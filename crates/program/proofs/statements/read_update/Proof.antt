@@ -2,9 +2,6 @@ use Rattle.program.proofs.StatementLaws.{updates}
 use borrow.Author.Needs.{needs}
 use Rattle.program.proofs.statements.read_update.Statement.{statement}
 use Rattle.program.proofs.statements.read_update.Tie as tie
-use Rattle.program.proofs.statements.read_update.Reads as reads
-use Rattle.program.proofs.statements.read_update.Lts as lts
-use Rattle.program.proofs.atoms.read_mutations.Reads as read-mutations-reads
 
 pub read-update-spec : {M : Type 1} → statement M
 read-update-spec =

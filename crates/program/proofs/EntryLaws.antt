@@ -1,0 +1,25 @@
+-- A law for each return of read_entry: an entry is read as what its name says. The loop over entries goes by the laws of AnswerLaws.
+use mathlib.Core.Path.{_≡_}
+use Prim.Native.Nat.{ℕ, _≤_}
+use mathlib.Core.List.{List}
+use Rattle.model.specs.Program.{readLabel, readQuery, readMutation}
+use Rattle.program.specs.declared.answer.Answer.{Answer}
+use Rattle.program.specs.declared.entries.Entry.{Entry}
+use Rattle.program.specs.declared.entries.Entry.the-variants.{Label, Query, Mutation}
+use Rattle.program.specs.Answer.{reachedBy, endOf}
+use Rattle.program.specs.Entries.{Room, readEntry}
+
+pub label-room : (entry : Entry) (R : ℕ) → Room entry R → entry ≡ Label → R ≤ 64
+label-room entry R h e = rw e at h
+
+module _ (s : List ℕ) (P R at : ℕ) (entry : Entry) (r : Answer) where
+  pub entry-label : entry ≡ Label → reachedBy r ≡ endOf (readLabel s R at) → reachedBy r ≡ endOf (readEntry s P R entry at)
+  entry-label e h = rw e h
+
+  pub entry-query : entry ≡ Query → reachedBy r ≡ endOf (readQuery s R at) → reachedBy r ≡ endOf (readEntry s P R entry at)
+  entry-query e h = rw e h
+
+  pub entry-mutation : entry ≡ Mutation → reachedBy r ≡ endOf (readMutation s P R at) → reachedBy r ≡ endOf (readEntry s P R entry at)
+  entry-mutation e h = rw e h
+
+pub ruleset entries = (label-room, entry-label, entry-query, entry-mutation)

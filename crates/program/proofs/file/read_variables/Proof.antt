@@ -1,0 +1,20 @@
+use Rattle.program.proofs.FileLaws.{variables}
+use borrow.Author.Needs.{needs}
+use Rattle.program.proofs.file.read_variables.Statement.{statement}
+use Rattle.program.proofs.file.read_variables.Tie as tie
+
+pub read-variables-spec : {M : Type 1} → statement M
+read-variables-spec =
+    tie.close
+    (tie.spec
+    (λ c. search (needs, variables))
+    (λ c. search needs)
+    (λ c. search (needs, variables))
+    (λ c. search needs)
+    (λ c. search needs)
+    (λ c κs. search needs)
+    (λ c. search needs)
+    (λ c. search needs)
+    (λ c. search (needs, variables))
+    (λ c κs. search needs)
+    (λ c. search (needs, variables)))

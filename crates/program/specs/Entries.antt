@@ -1,0 +1,26 @@
+-- What the lists of a program hold, as the model reads it.
+use Prim.Native.Nat.{ℕ, _≤_}
+use mathlib.Core.List.{List}
+use Rattle.model.specs.Mutation.{Mutation as ModelMutation}
+use Rattle.model.specs.Syntax.{Query as ModelQuery}
+use Rattle.model.specs.Program.{Read as Reading, readLabel, readQuery, readMutation}
+use Rattle.program.specs.declared.entries.Entry.{Entry}
+use Rattle.program.specs.declared.entries.Entry.the-variants.{Label, Query, Mutation}
+
+-- a label's byte has room for 64 roles; how many there are matters to no other entry
+abbrev pub Room : Entry → ℕ → Type 0
+Room Label R = R ≤ 64
+Room Query R = Unit {0}
+Room Mutation R = Unit {0}
+
+-- what an entry is read as: a label's byte, a query, a mutation
+abbrev pub Tree : Entry → Type 0
+Tree Label = ℕ
+Tree Query = ModelQuery
+Tree Mutation = ModelMutation
+
+-- an entry at a position
+abbrev pub readEntry : List ℕ → ℕ → ℕ → (entry : Entry) → ℕ → Reading (Tree entry)
+readEntry s P R Label = readLabel s R
+readEntry s P R Query = readQuery s R
+readEntry s P R Mutation = readMutation s P R

@@ -1,0 +1,76 @@
+// Reading a whole program: its mark and version, V, the labels of the variables, one statement, nothing more.
+ghost use mathlib.Core.Path.{_≡_};
+ghost use Prim.Native.Nat.{_≤_};
+ghost use Rattle.model.specs.Program.{programHead, readMark, readBody, readProgram};
+ghost use Rattle.program.specs.Answer.{reachedBy, endOf, readVariables};
+use super::answer::Answer;
+use super::entries;
+use super::entries::Entry;
+use super::statements;
+use shared::bytes;
+use shared::limit;
+use shared::number;
+
+// The mark and version at the head: of their bytes the first that is missing is 10, the first that differs 11.
+fn read_head(program: &[u8]) -> Answer
+    ensures { λ r. ⌜ reachedBy r ≡ endOf (readMark (now (program .entry)) programHead 0) ⌝ }
+{
+    let head = b"RXP\x01\x00";
+    let same = bytes::matching(program, head);
+    if same == head.len() {
+        return Answer::At(same);
+    }
+    if same < program.len() {
+        return Answer::Refused(number::PROGRAM_MARK, same);
+    }
+    Answer::Refused(number::PROGRAM_LENGTH, program.len())
+}
+
+// One statement, and nothing more.
+fn read_body(program: &[u8], principals: u8, roles: u8, vars: u8, at: usize) -> Answer
+    ensures { λ r. ⌜ reachedBy r ≡ endOf (readBody (now (program .entry)) principals roles vars at) ⌝ }
+{
+    let body = statements::read_stmt(program, principals, roles, vars, limit::STATEMENT_DEPTH, at);
+    let Answer::At(end) = body else {
+        return body;
+    };
+    if end != program.len() {
+        return Answer::Refused(number::PROGRAM_LENGTH, end);
+    }
+    Answer::At(end)
+}
+
+// V, V pairs of labels, the body.
+fn read_variables(program: &[u8], principals: u8, roles: u8, at: usize) -> Answer
+    requires { ⌜ roles ≤ 64 ⌝ }
+    ensures { λ r. ⌜ reachedBy r ≡ endOf (readVariables (now (program .entry)) principals roles at) ⌝ }
+{
+    if program.len() <= at {
+        return Answer::Refused(number::PROGRAM_LENGTH, program.len());
+    }
+    let vars = program[at];
+    if limit::VARIABLES < vars {
+        return Answer::Refused(number::PROGRAM_RANGE, at);
+    }
+    let labels = entries::read_entries(program, principals, roles, Entry::Label, 2 * vars, at + 1);
+    let Answer::At(body) = labels else {
+        return labels;
+    };
+    read_body(program, principals, roles, vars, body)
+}
+
+// Any bytes as a program under a policy of P principals and R roles; an accepted one has at most 64. Over-length comes before
+// the mark.
+pub fn read_program(program: &[u8], principals: u8, roles: u8) -> Answer
+    requires { ⌜ roles ≤ 64 ⌝ }
+    ensures { λ r. ⌜ reachedBy r ≡ endOf (readProgram (now (program .entry)) principals roles) ⌝ }
+{
+    if limit::PROGRAM_BYTES < program.len() {
+        return Answer::Refused(number::PROGRAM_LENGTH, limit::PROGRAM_BYTES);
+    }
+    let head = read_head(program);
+    let Answer::At(next) = head else {
+        return head;
+    };
+    read_variables(program, principals, roles, next)
+}
