@@ -2,28 +2,34 @@
 use mathlib.Core.Path.{_≡_, refl, sym, ap, subst, _∙_}
 use Prim.Native.Nat.{ℕ, zero, suc, _+_, _-_, _^_, _<_, _≤_}
 use mathlib.Core.List.{List, []}
-use mathlib.Core.Logic.{⊎-elim}
+use mathlib.Core.Logic.{_⊎_, inl, inr, ⊎-elim}
 use mathlib.Core.Bool.{Bool, true, false, cond, false≢true}
 use native.Mathlib.Omega.{arith}
 use native.Mathlib.Numerals.{add-one}
 use native.Mathlib.Nat.{mod-eq-of-lt}
 use lib.Pow.{pow-pos}
 use lib.Bits.{bitOr, and-mask}
-use lib.ListN.{length}
+use lib.ListN.{length, getD, set, length-set}
+use lib.Seq.{getD-set-same, getD-set-other}
 use borrow.Author.Tests.{eq-eqb}
+use Rattle.model.specs.Limits.{headBytes, roleLimit}
 use Rattle.model.specs.Sets.{has, within, with}
-use Rattle.model.specs.Policy.{Side, reading, trust, principals, roles, rowAt, viewers, trusters, watchers, Accepted}
+use Rattle.model.specs.Policy.{Side, reading, trust, principals, roles, HasRow, viewers, trusters, watchers, Accepted}
 use Rattle.model.specs.Syntax.{Fixed, of, everyone, Atom, role, fixed}
 use Rattle.model.specs.Order.{fixedSet, includes, base, atMost}
 use Rattle.model.proofs.Below.{last-or}
 use Rattle.model.proofs.Meaning.{watchers-below}
 use Rattle.model.proofs.Sets.{has-zero, has-with, has-with-same, with-has, has-power}
-use Rattle.model.proofs.Accepted.{accepted-facts}
-use Rattle.order.specs.declared.rows.Row.{Row}
-use Rattle.order.specs.Table.{tableWords, rowOf, rowIn, holds, rowHas, AtomBelow, sideOf, Knows}
-use Rattle.order.specs.Rows.{putRow, union, withRole, holders, fixedRow, RoleRows, Based}
+use Rattle.model.specs.Fits.{AtomFits}
+use Rattle.model.proofs.Accepted.{accepted-head, accepted-facts}
+use Rattle.model.proofs.Rows.{row-inside}
 use Rattle.model.proofs.Truth.{same-truth}
-use Rattle.order.proofs.RowLaws.{put-long, put-same, put-other, holds-union}
+use Rattle.shared.specs.Words.{single}
+use Rattle.shared.proofs.SetLaws.{single-is}
+use Rattle.order.specs.declared.table.Row.{Row}
+use Rattle.order.specs.Table.{viewersAt, trustersAt, everyoneAt, tableWords, rowOf, rowIn, putRow, holds, union, withRole, rowHas, Knows, sideOf}
+use Rattle.order.specs.Base.{Loaded, WordsOf, holders, fixedRow, RoleRows, Based}
+use Rattle.order.proofs.TableLaws.{put-long, put-same, put-other, holds-union}
 
 -- the watchers that a flag names
 module _ (s : List ℕ) (j r : ℕ) (flag : Bool) where
@@ -37,89 +43,99 @@ module _ (s : List ℕ) (j r : ℕ) (flag : Bool) where
 
 pub ruleset watches = (trust-watchers, reading-watchers)
 
+-- words loaded role by role
+module _ (s : List ℕ) (side : Side) (w : List ℕ) where
+  pub loaded-none : length w ≡ roleLimit → Loaded s side 0 w
+  loaded-none l = record { room = l; right = λ i k. absurd (omega arith) }
+
+  module _ (j : ℕ) (h : Loaded s side j w) where
+    pub loaded-more : (n x : ℕ) → j < n → n ≤ roleLimit → x ≡ watchers side s j → Loaded s side (j + 1) (set w j x)
+    loaded-more n x l k e = record { room = simp length-set (h .room); right = λ i m. go i (last-or j i (rw add-one at m)) }
+      where
+        go : (i : ℕ) → (i ≡ j) ⊎ (i < j) → getD (set w j x) i 0 ≡ watchers side s i
+        go i (inl q) = rw q (getD-set-same w j x 0 (omega (arith, h .room)) ∙ e)
+        go i (inr m) = getD-set-other w j i x 0 (λ q. omega arith) ∙ h .right i m
+
+    pub loaded-done : (n : ℕ) → j ≤ n → n ≤ j → Loaded s side n w
+    loaded-done n k l = let q : j ≡ n = omega arith in rw (← q) h
+
+pub ruleset loads = (loaded-none, loaded-more, loaded-done)
+
 -- the holders of a set, role by role
-module _ (s : List ℕ) (side : Side) (low : ℕ) where
-  module _ (j found w : ℕ) (b : Bool) (e : found ≡ holders s side low j) (p : w ≡ watchers side s j) (d : b ≡ within low w) where
-    pub marked-in : b ≡ true → (x : ℕ) → x ≡ 2 ^ j → bitOr found x ≡ holders s side low (j + 1)
+module _ (w : List ℕ) (low : ℕ) where
+  module _ (j found : ℕ) (b : Bool) (e : found ≡ holders w low j) (d : b ≡ within low (getD w j 0)) where
+    pub holder-in : b ≡ true → (x : ℕ) → j < 64 → x ≡ single j → bitOr found x ≡ holders w low (j + 1)
     unfolding holders
-    marked-in h x g = let k : within low (watchers side s j) ≡ true = rw (← p) (sym d ∙ h) in rw (add-one j, k, g, e)
+    holder-in h x l g = rw (add-one j, ← d, h, g, e, single-is j l)
 
-    pub marked-out : b ≡ false → found ≡ holders s side low (j + 1)
+    pub holder-out : b ≡ false → found ≡ holders w low (j + 1)
     unfolding holders
-    marked-out h = let k : within low (watchers side s j) ≡ false = rw (← p) (sym d ∙ h) in rw (add-one j, k) e
+    holder-out h = rw (add-one j, ← d, h) e
 
-  pub holders-none : 0 ≡ holders s side low 0
+  pub holders-none : 0 ≡ holders w low 0
   unfolding holders
   holders-none = refl
 
-  pub holders-done : (found j n : ℕ) → found ≡ holders s side low j → j ≤ n → n ≤ j → found ≡ holders s side low n
+  pub holders-done : (found j n : ℕ) → found ≡ holders w low j → j ≤ n → n ≤ j → found ≡ holders w low n
   holders-done found j n e h k = let q : j ≡ n = omega arith in rw (← q) e
 
-pub ruleset marks = (marked-in, marked-out, holders-none, holders-done)
+pub ruleset holder-laws = (holder-in, holder-out, holders-none, holders-done)
 
-pub fixed-row : (s : List ℕ) (low n v t : ℕ) → n ≡ roles s → v ≡ holders s reading low n → t ≡ holders s trust low n
-    → record { roles = 0; viewers = v; trusters = t } ≡ fixedRow s low
-fixed-row s low n v t e p q = rw (p, q, e)
+pub fixed-row : (v w : List ℕ) (n low x y : ℕ) → x ≡ holders v low n → y ≡ holders w low n → record { roles = 0; viewers = x; trusters = y } ≡ fixedRow v w n low
+fixed-row v w n low x y p q = rw (p, q)
 
-pub power-some : (n x : ℕ) → x ≡ 2 ^ n → 1 ≤ x
-power-some n x e = omega (arith, pow-pos n)
+-- all of n principals
+pub single-some : (n x : ℕ) → n < 64 → x ≡ single n → 1 ≤ x
+single-some n x l e = omega (arith, single-is n l, pow-pos n)
 
--- what base.rt needs of an accepted policy
+pub all-below : (n x : ℕ) → n < 64 → x ≡ single n → x - 1 ≡ 2 ^ n - 1
+all-below n x l e = rw (e, single-is n l)
+
+-- what base.rt needs of an accepted policy: its head and its rows are there, and its roles and principals are few
 module _ (s : List ℕ) (ok : Accepted s) where
-  long : length s ≡ rowAt (roles s)
-  long = accepted-facts s ok .long
+  pub head-there : headBytes ≤ length s
+  head-there = accepted-facts s ok .headed
 
-  pub policy-head : 6 < length s
-  policy-head = omega (arith, long)
-
-  pub policy-principals : 5 < length s
-  policy-principals = omega (arith, long)
-
-  pub principals-few : (n : ℕ) → n ≡ principals s → n < 64
-  principals-few n e = omega (arith, accepted-facts s ok .principals-fit)
+  -- P was read as m, and is wider as n
+  pub principals-few : (m n : ℕ) → m ≡ principals s → n ≡ m → n < 64
+  principals-few m n d e = omega (arith, accepted-facts s ok .principals-fit)
 
   module _ (n : ℕ) (e : n ≡ roles s) where
-    pub roles-few : n ≤ 64
+    pub roles-few : n ≤ roleLimit
     roles-few = omega (arith, accepted-facts s ok .roles-fit)
 
-    pub role-few : (j : ℕ) → j < n → j < 64
-    role-few j l = omega (arith, roles-few)
+    pub row-there : (j : ℕ) → j < n → HasRow s j
+    row-there j l = row-inside s (accepted-head s ok) j (rw e at l)
 
-    pub rows-inside : rowAt n ≤ length s
-    rows-inside = omega (arith, long)
-
-    pub row-inside : (j : ℕ) → j < n → rowAt j + 22 ≤ length s
-    row-inside j l = omega (arith, long)
-
--- a role is among the holders exactly when the set lies in its watchers
-module _ (s : List ℕ) (side : Side) (low : ℕ) where
+-- a role is among the holders exactly when the set lies in its word
+module _ (w : List ℕ) (low : ℕ) where
   abbrev Lies : ℕ → Type 0
-  Lies i = within low (watchers side s i) ≡ true
+  Lies i = within low (getD w i 0) ≡ true
 
-  has-next : (w n i : ℕ) (b : Bool) → within low (watchers side s n) ≡ b → (has w i ≡ true → (i < n) × Lies i)
-      → has (cond b (with w n) w) i ≡ true → (i < suc n) × Lies i
-  has-next w n i true d f h = ⊎-elim (λ e. (omega arith, rw e d)) (λ k. let (l, q) = f k in (omega arith, q)) (with-has w n i h)
-  has-next w n i false d f h = let (l, q) = f h in (omega arith, q)
+  has-next : (x n i : ℕ) (b : Bool) → within low (getD w n 0) ≡ b → (has x i ≡ true → (i < n) × Lies i)
+      → has (cond b (with x n) x) i ≡ true → (i < suc n) × Lies i
+  has-next x n i true d f h = ⊎-elim (λ e. (omega arith, rw e d)) (λ k. let (l, q) = f k in (omega arith, q)) (with-has x n i h)
+  has-next x n i false d f h = let (l, q) = f h in (omega arith, q)
 
-  has-holders : (n i : ℕ) → has (holders s side low n) i ≡ true → (i < n) × Lies i
+  has-holders : (n i : ℕ) → has (holders w low n) i ≡ true → (i < n) × Lies i
   unfolding holders
   has-holders zero i h = absurd (let z : _≡_ {A = Bool} false true = sym (has-zero i) ∙ h in false≢true z)
-  has-holders (suc n) i h = has-next (holders s side low n) n i (within low (watchers side s n)) refl (has-holders n i) h
+  has-holders (suc n) i h = has-next (holders w low n) n i (within low (getD w n 0)) refl (has-holders n i) h
 
-  next-has : (w n i : ℕ) (b : Bool) → has w i ≡ true → has (cond b (with w n) w) i ≡ true
-  next-has w n i true h = has-with w n i h
-  next-has w n i false h = h
+  next-has : (x n i : ℕ) (b : Bool) → has x i ≡ true → has (cond b (with x n) x) i ≡ true
+  next-has x n i true h = has-with x n i h
+  next-has x n i false h = h
 
-  next-same : (w n i : ℕ) (b : Bool) → b ≡ true → i ≡ n → has (cond b (with w n) w) i ≡ true
-  next-same w n i b d e = rw (d, e) (has-with-same w n)
+  next-same : (x n i : ℕ) (b : Bool) → b ≡ true → i ≡ n → has (cond b (with x n) x) i ≡ true
+  next-same x n i b d e = rw (d, e) (has-with-same x n)
 
-  holders-has : (n i : ℕ) → i < n → Lies i → has (holders s side low n) i ≡ true
+  holders-has : (n i : ℕ) → i < n → Lies i → has (holders w low n) i ≡ true
   unfolding holders
   holders-has (suc n) i l d =
-      ⊎-elim (λ e. next-same (holders s side low n) n i (within low (watchers side s n)) (rw e at d) e)
-      (λ k. next-has (holders s side low n) n i (within low (watchers side s n)) (holders-has n i k d)) (last-or n i l)
+      ⊎-elim (λ e. next-same (holders w low n) n i (within low (getD w n 0)) (rw e at d) e)
+      (λ k. next-has (holders w low n) n i (within low (getD w n 0)) (holders-has n i k d)) (last-or n i l)
 
-  holders-are : (n i : ℕ) → i < n → has (holders s side low n) i ≡ within low (watchers side s i)
+  holders-are : (n i : ℕ) → i < n → has (holders w low n) i ≡ within low (getD w i 0)
   holders-are n i l = same-truth _ _ (λ h. has-holders n i h .1) (holders-has n i l)
 
 with-fixed : (r : Row) (j : ℕ) (f : Fixed) → holds (withRole r j) (fixed f) ≡ holds r (fixed f)
@@ -127,111 +143,112 @@ with-fixed r j (of reading i) = refl
 with-fixed r j (of trust i) = refl
 with-fixed r j everyone = refl
 
--- rows as the fixed part has them
+-- rows as the fixed part has them, by its words v of viewers and w of trusters
 module _ (s : List ℕ) (ok : Accepted s) where
-  fixed-below : (g : Fixed) → AtomBelow (roles s) (fixed g) → fixedSet s g < 2 ^ principals s
+  fixed-below : (g : Fixed) → AtomFits (roles s) (fixed g) → fixedSet s g < 2 ^ principals s
   unfolding fixedSet
   fixed-below (of side j) l = watchers-below s ok j l side
   fixed-below everyone l = omega (arith, pow-pos (principals s))
 
   -- everyone is at most every atom
-  everyone-first : (g : Fixed) → AtomBelow (roles s) (fixed g) → includes s everyone g ≡ true
+  everyone-first : (g : Fixed) → AtomFits (roles s) (fixed g) → includes s everyone g ≡ true
   unfolding includes fixedSet
   everyone-first g l = eq-eqb _ _ (and-mask (fixedSet s g) (principals s) ∙ mod-eq-of-lt (fixed-below g l))
 
-  row-fixed : (g : Fixed) → AtomBelow (roles s) (fixed g) → (a : Atom) → AtomBelow (roles s) a → holds (fixedRow s (fixedSet s g)) a ≡ base s a (fixed g)
-  unfolding base includes fixedSet
-  row-fixed g l (role i) k = has-zero i
-  row-fixed g l (fixed (of reading i)) k = holders-are s reading (fixedSet s g) (roles s) i k
-  row-fixed g l (fixed (of trust i)) k = holders-are s trust (fixedSet s g) (roles s) i k
-  row-fixed g l (fixed everyone) k = sym (everyone-first g l)
+  module _ (v w : List ℕ) (n : ℕ) (words : WordsOf s n v w) where
+    abbrev rowOfSet : Fixed → Row
+    rowOfSet g = fixedRow v w n (fixedSet s g)
 
-  row-role : (j : ℕ) → j < roles s → (a : Atom) → AtomBelow (roles s) a
-      → holds (withRole (union (fixedRow s (fixedSet s (of reading j))) (fixedRow s (fixedSet s (of trust j)))) j) a ≡ base s a (role j)
-  unfolding base
-  row-role j l (role i) k = has-power j i
-  row-role j l (fixed f) k =
-      with-fixed (union (fixedRow s (fixedSet s (of reading j))) (fixedRow s (fixedSet s (of trust j)))) j f
-      ∙ holds-union (fixedRow s (fixedSet s (of reading j))) (fixedRow s (fixedSet s (of trust j))) (fixed f)
-      ∙ rw (row-fixed (of reading j) l (fixed f) k, row-fixed (of trust j) l (fixed f) k)
+    held : (side : Side) (x : List ℕ) → Loaded s side n x → (g : Fixed) (i : ℕ) → i < roles s
+        → has (holders x (fixedSet s g) n) i ≡ includes s (of side i) g
+    unfolding includes fixedSet
+    held side x h g i k = let l = rw (← words .roles-are) at k in holders-are x (fixedSet s g) n i l ∙ ap (within (fixedSet s g)) (h .right i l)
+
+    row-fixed : (g : Fixed) → AtomFits (roles s) (fixed g) → (a : Atom) → AtomFits (roles s) a → holds (rowOfSet g) a ≡ base s a (fixed g)
+    unfolding base
+    row-fixed g l (role i) k = has-zero i
+    row-fixed g l (fixed (of reading i)) k = held reading v (words .viewers-are) g i k
+    row-fixed g l (fixed (of trust i)) k = held trust w (words .trusters-are) g i k
+    row-fixed g l (fixed everyone) k = sym (everyone-first g l)
+
+    row-role : (j : ℕ) → j < roles s → (a : Atom) → AtomFits (roles s) a
+        → holds (withRole (union (rowOfSet (of reading j)) (rowOfSet (of trust j))) j) a ≡ base s a (role j)
+    unfolding base
+    row-role j l (role i) k = has-power j i
+    row-role j l (fixed f) k =
+        with-fixed (union (rowOfSet (of reading j)) (rowOfSet (of trust j))) j f
+        ∙ holds-union (rowOfSet (of reading j)) (rowOfSet (of trust j)) (fixed f)
+        ∙ rw (row-fixed (of reading j) l (fixed f) k, row-fixed (of trust j) l (fixed f) k)
 
 pub role-row : (v w z r : Row) (j : ℕ) → z ≡ union v w → r ≡ withRole z j → r ≡ withRole (union v w) j
 role-row v w z r j e f = f ∙ rw e
 
 -- three rows written one after the other
-pub role-written : (j : ℕ) (v w m : Row) (t t₁ t₂ u : List ℕ) → length t ≡ tableWords → j < 64 → m ≡ withRole (union v w) j
-    → t₁ ≡ putRow t j m → t₂ ≡ putRow t₁ (64 + j) v → u ≡ putRow t₂ (128 + j) w → RoleRows j v w t u
-role-written j v w m t t₁ t₂ u long few g e f h =
+pub role-written : (v w : List ℕ) (n j : ℕ) (x y m : Row) (t t₁ t₂ u : List ℕ) → length t ≡ tableWords → j < n → n ≤ roleLimit
+    → x ≡ fixedRow v w n (getD v j 0) → y ≡ fixedRow v w n (getD w j 0) → m ≡ withRole (union x y) j
+    → t₁ ≡ putRow t j m → t₂ ≡ putRow t₁ (viewersAt + j) x → u ≡ putRow t₂ (trustersAt + j) y → RoleRows v w n j t u
+role-written v w n j x y m t t₁ t₂ u long l k p q g e f h =
     let long₁ = put-long t t₁ j m long e in
-    let long₂ = put-long t₁ t₂ (64 + j) v long₁ f in
+    let long₂ = put-long t₁ t₂ (viewersAt + j) x long₁ f in
     record {
-      long = put-long t₂ u (128 + j) w long₂ h;
-      viewers-row = put-other t₂ u (128 + j) w long₂ h (64 + j) (λ o. omega arith) ∙ put-same t₁ t₂ (64 + j) v long₁ f (omega arith);
-      trusters-row = put-same t₂ u (128 + j) w long₂ h (omega arith);
+      long = put-long t₂ u (trustersAt + j) y long₂ h;
+      viewers-row = put-other t₂ u (trustersAt + j) y long₂ h (viewersAt + j) (λ o. omega arith) ∙ put-same t₁ t₂ (viewersAt + j) x long₁ f (omega arith) ∙ p;
+      trusters-row = put-same t₂ u (trustersAt + j) y long₂ h (omega arith) ∙ q;
       role-row =
-          put-other t₂ u (128 + j) w long₂ h j (λ o. omega arith) ∙ put-other t₁ t₂ (64 + j) v long₁ f j (λ o. omega arith)
-          ∙ put-same t t₁ j m long e (omega arith) ∙ g;
-      others = λ y n₁ n₂ n₃. put-other t₂ u (128 + j) w long₂ h y n₃ ∙ put-other t₁ t₂ (64 + j) v long₁ f y n₂ ∙ put-other t t₁ j m long e y n₁;
+          put-other t₂ u (trustersAt + j) y long₂ h j (λ o. omega arith) ∙ put-other t₁ t₂ (viewersAt + j) x long₁ f j (λ o. omega arith)
+          ∙ put-same t t₁ j m long e (omega arith) ∙ g ∙ rw (p, q);
+      others = λ z n₁ n₂ n₃. put-other t₂ u (trustersAt + j) y long₂ h z n₃ ∙ put-other t₁ t₂ (viewersAt + j) x long₁ f z n₂ ∙ put-other t t₁ j m long e z n₁;
     }
 
 -- everyone's row, then the rows of role j, its viewers and its trusters
-module _ (s : List ℕ) (ok : Accepted s) where
-  pub based-none : (t u : List ℕ) (p low : ℕ) (r : Row) → length t ≡ tableWords → p ≡ principals s → low ≡ 2 ^ p - 1 → r ≡ fixedRow s low
-      → u ≡ putRow t 192 r → Based s 0 u
+module _ (s : List ℕ) (ok : Accepted s) (v w : List ℕ) (n : ℕ) (words : WordsOf s n v w) where
+  pub based-none : (t u : List ℕ) (c p low : ℕ) (r : Row) → length t ≡ tableWords → c ≡ principals s → p ≡ c → low ≡ 2 ^ p - 1 → r ≡ fixedRow v w n low
+      → u ≡ putRow t everyoneAt r → Based s 0 u
   unfolding fixedSet
-  based-none t u p low r l e d g h = record { long = put-long t u 192 r l h; right = right }
+  based-none t u c p low r l q e d g h = record { long = put-long t u everyoneAt r l h; right = right }
     where
-      right : (a b : Atom) → AtomBelow (roles s) a → AtomBelow 0 b → rowHas u (rowOf b) a ≡ base s a b
+      right : (a b : Atom) → AtomFits (roles s) a → AtomFits 0 b → rowHas u (rowOf b) a ≡ base s a b
       right a (role j) k m = absurd (omega arith)
       right a (fixed (of side j)) k m = absurd (omega arith)
       right a (fixed everyone) k m =
-          ap (λ (x : Row). holds x a) (put-same t u 192 r l h (omega arith) ∙ g ∙ ap (fixedRow s) (d ∙ rw e)) ∙ row-fixed s ok everyone tt a k
+          ap (λ (x : Row). holds x a) (put-same t u everyoneAt r l h (omega arith) ∙ g ∙ ap (fixedRow v w n) (d ∙ rw (e, q))) ∙ row-fixed s ok v w n words everyone tt a k
 
-  module _ (t u : List ℕ) (n j v w : ℕ) (x y : Row) (e : n ≡ roles s) (l : j < n) (b : Based s j t)
-      (p : v ≡ watchers reading s j) (q : w ≡ watchers trust s j) (f : x ≡ fixedRow s v) (g : y ≡ fixedRow s w)
-      (h : RoleRows j x y t u) where
-    few : j < 64
-    few = omega (arith, accepted-facts s ok .roles-fit)
+  module _ (t u : List ℕ) (j : ℕ) (l : j < n) (b : Based s j t) (h : RoleRows v w n j t u) where
+    few : j < roleLimit
+    few = omega (arith, accepted-facts s ok .roles-fit, words .roles-are)
 
     in-range : j < roles s
-    in-range = rw e at l
+    in-range = rw (words .roles-are) at l
 
-    x-is : x ≡ fixedRow s (fixedSet s (of reading j))
+    new-fixed : (side : Side) → rowIn u (rowOf (fixed (of side j))) ≡ fixedRow v w n (fixedSet s (of side j))
     unfolding fixedSet
-    x-is = f ∙ ap (fixedRow s) p
+    new-fixed reading = h .viewers-row ∙ ap (fixedRow v w n) (words .viewers-are .right j l)
+    new-fixed trust = h .trusters-row ∙ ap (fixedRow v w n) (words .trusters-are .right j l)
 
-    y-is : y ≡ fixedRow s (fixedSet s (of trust j))
-    unfolding fixedSet
-    y-is = g ∙ ap (fixedRow s) q
-
-    new-role : rowIn u j ≡ withRole (union (fixedRow s (fixedSet s (of reading j))) (fixedRow s (fixedSet s (of trust j)))) j
-    new-role = h .role-row ∙ ap (λ (r : Row). withRole r j) (both x-is y-is)
+    new-role : rowIn u j ≡ withRole (union (fixedRow v w n (fixedSet s (of reading j))) (fixedRow v w n (fixedSet s (of trust j)))) j
+    new-role = h .role-row ∙ ap (λ (r : Row). withRole r j) (both (sym (h .viewers-row) ∙ new-fixed reading) (sym (h .trusters-row) ∙ new-fixed trust))
       where
         both : {r r′ o o′ : Row} → r ≡ r′ → o ≡ o′ → union r o ≡ union r′ o′
         both a a′ = rw (a, a′)
 
-    new-fixed : (side : Side) → rowIn u (rowOf (fixed (of side j))) ≡ fixedRow s (fixedSet s (of side j))
-    new-fixed reading = h .viewers-row ∙ x-is
-    new-fixed trust = h .trusters-row ∙ y-is
-
-    old : (o : Atom) → AtomBelow j o → rowIn u (rowOf o) ≡ rowIn t (rowOf o)
+    old : (o : Atom) → AtomFits j o → rowIn u (rowOf o) ≡ rowIn t (rowOf o)
     old (role o) a = h .others o (λ r. omega arith) (λ r. omega arith) (λ r. omega (arith, few))
-    old (fixed (of reading o)) a = h .others (64 + o) (λ r. omega (arith, few)) (λ r. omega arith) (λ r. omega (arith, few))
-    old (fixed (of trust o)) a = h .others (128 + o) (λ r. omega (arith, few)) (λ r. omega (arith, few)) (λ r. omega arith)
-    old (fixed everyone) a = h .others 192 (λ r. omega (arith, few)) (λ r. omega (arith, few)) (λ r. omega (arith, few))
+    old (fixed (of reading o)) a = h .others (viewersAt + o) (λ r. omega (arith, few)) (λ r. omega arith) (λ r. omega (arith, few))
+    old (fixed (of trust o)) a = h .others (trustersAt + o) (λ r. omega (arith, few)) (λ r. omega (arith, few)) (λ r. omega arith)
+    old (fixed everyone) a = h .others everyoneAt (λ r. omega (arith, few)) (λ r. omega (arith, few)) (λ r. omega (arith, few))
 
     pub based-more : Based s (j + 1) u
     based-more = record { long = h .long; right = right }
       where
-        stays : (a o : Atom) → AtomBelow (roles s) a → AtomBelow j o → rowHas u (rowOf o) a ≡ base s a o
+        stays : (a o : Atom) → AtomFits (roles s) a → AtomFits j o → rowHas u (rowOf o) a ≡ base s a o
         stays a o ha ho = ap (λ (r : Row). holds r a) (old o ho) ∙ b .right a o ha ho
 
-        right : (a o : Atom) → AtomBelow (roles s) a → AtomBelow (j + 1) o → rowHas u (rowOf o) a ≡ base s a o
+        right : (a o : Atom) → AtomFits (roles s) a → AtomFits (j + 1) o → rowHas u (rowOf o) a ≡ base s a o
         right a (role o) ha ho =
-            ⊎-elim (λ e′. subst (λ (o : ℕ). rowHas u o a ≡ base s a (role o)) (sym e′) (ap (λ (r : Row). holds r a) new-role ∙ row-role s ok j in-range a ha))
+            ⊎-elim (λ e′. subst (λ (o : ℕ). rowHas u o a ≡ base s a (role o)) (sym e′) (ap (λ (r : Row). holds r a) new-role ∙ row-role s ok v w n words j in-range a ha))
             (stays a (role o) ha) (last-or j o (rw add-one at ho))
         right a (fixed (of side o)) ha ho =
-            ⊎-elim (λ e′. subst (λ (o : ℕ). rowHas u (rowOf (fixed (of side o))) a ≡ base s a (fixed (of side o))) (sym e′) (ap (λ (r : Row). holds r a) (new-fixed side) ∙ row-fixed s ok (of side j) in-range a ha))
+            ⊎-elim (λ e′. subst (λ (o : ℕ). rowHas u (rowOf (fixed (of side o))) a ≡ base s a (fixed (of side o))) (sym e′) (ap (λ (r : Row). holds r a) (new-fixed side) ∙ row-fixed s ok v w n words (of side j) in-range a ha))
             (stays a (fixed (of side o)) ha) (last-or j o (rw add-one at ho))
         right a (fixed everyone) ha ho = stays a (fixed everyone) ha tt
 
@@ -240,6 +257,6 @@ pub knows-none : (s t : List ℕ) (n j : ℕ) → n ≡ roles s → j ≤ n → 
 unfolding atMost
 knows-none s t n j e h k b = let r : j ≡ roles s = omega arith in record { long = b .long; decides = rw r at b .right }
 
-pub ruleset facts = (policy-head, policy-principals, principals-few, roles-few, role-few, rows-inside, row-inside)
+pub ruleset facts = (head-there, principals-few, roles-few, row-there)
 
 pub ruleset based = (based-none, based-more, knows-none)

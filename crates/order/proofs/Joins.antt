@@ -1,21 +1,22 @@
 -- How joins go as words, for callers that carry a join along: the empty join, two joins together, one label, the labels of queries.
 use mathlib.Core.Path.{_≡_, refl, sym, ap, _∙_}
-use Prim.Native.Nat.{ℕ, _^_, _≤_}
-use mathlib.Core.List.{List, [], _∷_, _++_, List·Memᴰ, List·Memᴰ·head, List·Memᴰ·tail, List·Memᴰ·not-nil, List·Memᴰ·eq-of-singleton, List·Memᴰ·append-cases, Memᴰ·append-left, Memᴰ·append-right}
+use Prim.Native.Nat.{ℕ, _^_, _<_, _≤_}
+use mathlib.Core.List.{List, [], _∷_, _++_, List·Memᴰ·head, List·Memᴰ·tail, List·Memᴰ·not-nil, List·Memᴰ·eq-of-singleton, List·Memᴰ·append-cases, Memᴰ·append-left, Memᴰ·append-right}
 use mathlib.Core.Logic.{⊎-elim}
-use mathlib.Core.Bool.{true, true≢false, _&&_, and-assoc}
+use mathlib.Core.Bool.{true, true≢false}
 use native.Mathlib.Omega.{arith}
 use lib.Bits.{bitOr}
 use borrow.Author.Tests.{eq-eqb}
+use Rattle.model.specs.Limits.{roleLimit}
 use Rattle.model.specs.Sets.{has}
 use Rattle.model.specs.Policy.{Side}
-use Rattle.model.specs.Syntax.{Fixed, of, everyone, Atom, role, fixed, Query, atomByte}
-use Rattle.model.specs.Order.{atMost, joinAtMost}
+use Rattle.model.specs.Syntax.{Fixed, of, everyone, Atom, role, fixed, Query}
+use Rattle.model.specs.Fits.{Each, AtomFits, QueryFits}
 use Rattle.model.specs.Flow.{atomLabel, queryLabel, listLabel}
 use Rattle.model.proofs.Sets.{has-zero, has-or-l, has-or-r, or-has, has-power, power-is}
-use Rattle.order.specs.Table.{AtomBelow, QueryBelow, Joins, JoinBelow, namedRole, queryRoles, listRoles}
-use Rattle.order.specs.Rows.{atomOf}
-use Rattle.order.proofs.RowLaws.{atom-of}
+use Rattle.shared.specs.Words.{single}
+use Rattle.shared.proofs.SetLaws.{single-is}
+use Rattle.order.specs.Table.{Joins, JoinBelow, namedRole, queryRoles, listRoles}
 
 power-has : (j i : ℕ) → i ≡ j → has (2 ^ j) i ≡ true
 power-has j i e = has-power j i ∙ eq-eqb i j e
@@ -89,29 +90,25 @@ module _ (side : Side) where
       other : {side′ : Side} {i : ℕ} → _≡_ {A = Atom} (fixed (of side′ i)) (fixed everyone) → ⊥
       other e = let z : _≡_ {A = ℕ} 0 1 = cc in omega arith
 
-  -- the labels of an atom, of a query, of a list of queries: no roles, and the watchers of the named roles
-  pub joins-atom : (a : Atom) → Joins side (atomLabel side a) 0 (namedRole a)
-  unfolding atomLabel
-  joins-atom (role j) = joins-watchers j
-  joins-atom (fixed (of _ j)) = joins-watchers j
-  joins-atom (fixed everyone) = joins-none
+  -- the labels of an atom, of a query, of a list of queries, which fit a policy: no roles, and the watchers of the named roles
+  module _ (n : ℕ) (few : n ≤ roleLimit) where
+    joins-named : (j : ℕ) → j < n → Joins side (fixed (of side j) ∷ []) 0 (single j)
+    joins-named j l = rw (single-is j (omega arith)) (joins-watchers j)
 
-  pub joins-query : (q : Query) → Joins side (queryLabel side q) 0 (queryRoles q)
-  unfolding queryLabel
-  joins-query q = joins-append (joins-atom (q .first)) (joins-atom (q .second))
+    pub joins-atom : (a : Atom) → AtomFits n a → Joins side (atomLabel side a) 0 (namedRole a)
+    unfolding atomLabel
+    joins-atom (role j) l = joins-named j l
+    joins-atom (fixed (of _ j)) l = joins-named j l
+    joins-atom (fixed everyone) l = joins-none
 
-  -- by what `rows::named` says of the bytes x and y of a query's atoms
-  pub joins-bytes : (n x y r r′ : ℕ) (q : Query) → n ≤ 64 → QueryBelow n q → atomByte (q .first) ≡ x → atomByte (q .second) ≡ y
-      → r ≡ namedRole (atomOf x) → r′ ≡ namedRole (atomOf y) → Joins side (queryLabel side q) 0 (bitOr r r′)
-  joins-bytes n x y r r′ q few l e f g h =
-      let a : r ≡ namedRole (q .first) = g ∙ rw (← e, atom-of n (q .first) few (l .0)) in
-      let b : r′ ≡ namedRole (q .second) = h ∙ rw (← f, atom-of n (q .second) few (l .1)) in
-      rw (a, b) (joins-query q)
+    pub joins-query : (q : Query) → QueryFits n q → Joins side (queryLabel side q) 0 (queryRoles q)
+    unfolding queryLabel
+    joins-query q l = joins-append (joins-atom (q .first) (l .0)) (joins-atom (q .second) (l .1))
 
-  pub joins-list : (qs : List Query) → Joins side (listLabel side qs) 0 (listRoles qs)
-  unfolding listLabel listRoles
-  joins-list [] = joins-none
-  joins-list (q ∷ qs) = joins-append (joins-query q) (joins-list qs)
+    pub joins-list : (qs : List Query) → Each (QueryFits n) qs → Joins side (listLabel side qs) 0 (listRoles qs)
+    unfolding listLabel listRoles
+    joins-list [] l = joins-none
+    joins-list (q ∷ qs) l = joins-append (joins-query q (l q (List·Memᴰ·head refl))) (joins-list qs (λ k m. l k (List·Memᴰ·tail m)))
 
 -- the same joins hold only atoms of a policy with n roles
 module _ (n : ℕ) where
@@ -121,27 +118,21 @@ module _ (n : ℕ) where
   pub below-append : {x y : List Atom} → JoinBelow n x → JoinBelow n y → JoinBelow n (x ++ y)
   below-append {x} {y} f g a m = ⊎-elim (f a) (g a) (List·Memᴰ·append-cases x m)
 
-  pub below-one : (b : Atom) → AtomBelow n b → JoinBelow n (b ∷ [])
+  pub below-one : (b : Atom) → AtomFits n b → JoinBelow n (b ∷ [])
   below-one b l a m = rw (List·Memᴰ·eq-of-singleton m) l
 
   module _ (side : Side) where
-    pub below-atom : (a : Atom) → AtomBelow n a → JoinBelow n (atomLabel side a)
+    pub below-atom : (a : Atom) → AtomFits n a → JoinBelow n (atomLabel side a)
     unfolding atomLabel
     below-atom (role j) l = below-one (fixed (of side j)) l
     below-atom (fixed (of _ j)) l = below-one (fixed (of side j)) l
     below-atom (fixed everyone) l = below-none
 
-    pub below-query : (q : Query) → QueryBelow n q → JoinBelow n (queryLabel side q)
+    pub below-query : (q : Query) → QueryFits n q → JoinBelow n (queryLabel side q)
     unfolding queryLabel
     below-query q l = below-append (below-atom (q .first) (l .0)) (below-atom (q .second) (l .1))
 
-    pub below-list : (qs : List Query) → ((q : Query) → List·Memᴰ q qs → QueryBelow n q) → JoinBelow n (listLabel side qs)
+    pub below-list : (qs : List Query) → Each (QueryFits n) qs → JoinBelow n (listLabel side qs)
     unfolding listLabel
     below-list [] f = below-none
     below-list (q ∷ qs) f = below-append (below-query q (f q (List·Memᴰ·head refl))) (below-list qs (λ k m. f k (List·Memᴰ·tail m)))
-
--- two joins are at most an atom when both are
-pub join-both : (s : List ℕ) (known : List Query) (x y : List Atom) (b : Atom) → joinAtMost s known (x ++ y) b ≡ joinAtMost s known x b && joinAtMost s known y b
-unfolding joinAtMost
-join-both s known [] y b = refl
-join-both s known (a ∷ x) y b = rw (join-both s known x y b) (sym (and-assoc (atMost s known a b) (joinAtMost s known x b) (joinAtMost s known y b)))

@@ -2,17 +2,25 @@
 use mathlib.Core.Path.{_≡_, refl, sym, ap, _∙_}
 use Prim.Native.Nat.{ℕ, _+_, _<_, _≤_}
 use mathlib.Core.List.{List, _∷_}
+use mathlib.Core.Logic.{⊎-elim}
 use mathlib.Core.Bool.{Bool, true, false, cond, _||_, _&&_, or-false, and-true, and-false}
 use native.Mathlib.Omega.{arith}
 use native.Mathlib.Decide.{decLt}
 use lib.ListN.{length}
+use Rattle.model.specs.Limits.{roleLimit}
 use Rattle.model.specs.Policy.{reading, trust, roles}
-use Rattle.model.specs.Syntax.{of, everyone, Atom, role, fixed}
-use Rattle.model.specs.Order.{atMost}
-use Rattle.order.specs.declared.rows.Row.{Row}
-use Rattle.order.specs.Table.{tableWords, tableRows, rowOf, rowIn, holds, rowHas, AtomBelow, Learnt}
-use Rattle.order.specs.Rows.{atomOf, putRow, union, grown, Grew, AllGrew}
-use Rattle.order.proofs.RowLaws.{put-long, put-same, put-other, atom-of, holds-union}
+use Rattle.model.specs.Syntax.{of, everyone, Atom, role, fixed, Query}
+use Rattle.model.specs.Order.{chain, atMost}
+use Rattle.model.proofs.Truth.{same-truth, either, both, or-left}
+use Rattle.model.proofs.Accepted.{accepted-facts}
+use Rattle.model.proofs.Order.{test-derivable, derivable-test}
+use Rattle.model.specs.Fits.{AtomFits}
+use Rattle.program.specs.declared.codes.Atom.{Atom as CodeAtom}
+use Rattle.program.specs.Codes.{modelAtom}
+use Rattle.order.specs.declared.table.Row.{Row}
+use Rattle.order.specs.Table.{viewersAt, trustersAt, everyoneAt, tableRows, tableWords, rowOf, indexOf, rowIn, putRow, holds, union, rowHas, queryOf, Learnt, DecidesQuery}
+use Rattle.order.specs.Learn.{grown, Grew, AllGrew}
+use Rattle.order.proofs.TableLaws.{put-long, put-same, put-other, index-is, holds-union}
 
 grown-in : (a : Atom) (lower r : Row) → holds r a ≡ true → grown a lower r ≡ union r lower
 grown-in a lower r h = rw h
@@ -79,39 +87,62 @@ same : {a b c a′ b′ c′ : Bool} → a ≡ a′ → b ≡ b′ → c ≡ c�
 same p q r = rw (p, q, r)
 
 -- the runs over roles, viewers, trusters and everyone
-pub all-grew : (a : Atom) (lower : Row) (n : ℕ) (t t₁ t₂ t₃ u : List ℕ) → n ≤ 64 → Grew a lower 0 n t t₁ → Grew a lower 64 n t₁ t₂
-    → Grew a lower 128 n t₂ t₃ → Grew a lower 192 1 t₃ u → AllGrew a lower n t u
+pub all-grew : (a : Atom) (lower : Row) (n : ℕ) (t t₁ t₂ t₃ u : List ℕ) → n ≤ roleLimit → Grew a lower 0 n t t₁ → Grew a lower viewersAt n t₁ t₂
+    → Grew a lower trustersAt n t₂ t₃ → Grew a lower everyoneAt 1 t₃ u → AllGrew a lower n t u
 all-grew a lower n t t₁ t₂ t₃ u few g₁ g₂ g₃ g₄ = record { long = g₄ .long; row = row }
   where
-    row : (b : Atom) → AtomBelow n b → rowIn u (rowOf b) ≡ grown a lower (rowIn t (rowOf b))
+    row : (b : Atom) → AtomFits n b → rowIn u (rowOf b) ≡ grown a lower (rowIn t (rowOf b))
     row (role j) l =
         g₄ .before j (omega arith) ∙ g₃ .before j (omega arith) ∙ g₂ .before j (omega arith) ∙ g₁ .inside j (omega arith) (omega arith)
     row (fixed (of reading j)) l =
-        g₄ .before (64 + j) (omega arith) ∙ g₃ .before (64 + j) (omega arith)
-        ∙ g₂ .inside (64 + j) (omega arith) (omega arith) ∙ ap (grown a lower) (g₁ .after (64 + j) (omega arith))
+        g₄ .before (viewersAt + j) (omega arith) ∙ g₃ .before (viewersAt + j) (omega arith)
+        ∙ g₂ .inside (viewersAt + j) (omega arith) (omega arith) ∙ ap (grown a lower) (g₁ .after (viewersAt + j) (omega arith))
     row (fixed (of trust j)) l =
-        g₄ .before (128 + j) (omega arith) ∙ g₃ .inside (128 + j) (omega arith) (omega arith)
-        ∙ ap (grown a lower) (g₂ .after (128 + j) (omega arith) ∙ g₁ .after (128 + j) (omega arith))
+        g₄ .before (trustersAt + j) (omega arith) ∙ g₃ .inside (trustersAt + j) (omega arith) (omega arith)
+        ∙ ap (grown a lower) (g₂ .after (trustersAt + j) (omega arith) ∙ g₁ .after (trustersAt + j) (omega arith))
     row (fixed everyone) l =
-        g₄ .inside 192 (omega arith) (omega arith)
-        ∙ ap (grown a lower) (g₃ .after 192 (omega arith) ∙ g₂ .after 192 (omega arith) ∙ g₁ .after 192 (omega arith))
+        g₄ .inside everyoneAt (omega arith) (omega arith)
+        ∙ ap (grown a lower) (g₃ .after everyoneAt (omega arith) ∙ g₂ .after everyoneAt (omega arith) ∙ g₁ .after everyoneAt (omega arith))
 
--- the first atom's row was read before any row grew
-module _ (n x y k : ℕ) (t u : List ℕ) (lower : Row) (few : n ≤ 64) (e : k ≡ rowOf (atomOf x)) (d : lower ≡ rowIn t k) (all : AllGrew (atomOf y) lower n t u) where
-  pub learn-done : Learnt n t u x y
+-- the first atom's row was read before any row grew; the code has the number of roles as the wider number m
+module _ (n m : ℕ) (a b : CodeAtom) (t u : List ℕ) (lower : Row) (few : n ≤ roleLimit) (e : m ≡ n) (d : lower ≡ rowIn t (indexOf a)) (all : AllGrew (modelAtom b) lower m t u) where
+  pub learn-done : Learnt n t u (queryOf a b)
   unfolding Learnt atMost
-  learn-done s known q ok m f g bp br knows = record { long = all .long; decides = decided }
+  learn-done s known ok r fits knows = record { long = all .long; decides = decided }
     where
-      first : lower ≡ rowIn t (rowOf (q .first))
-      first = d ∙ rw (e, ← f, atom-of n (q .first) few bp)
+      first : lower ≡ rowIn t (rowOf (modelAtom a))
+      first = d ∙ rw (index-is n a few (fits .0))
 
-      second : atomOf y ≡ q .second
-      second = rw (← g) (atom-of n (q .second) few br)
+      decided : (x y : Atom) → AtomFits (roles s) x → AtomFits (roles s) y → rowHas u (rowOf y) x ≡ atMost s (queryOf a b ∷ known) x y
+      decided x y hx hy =
+          ap (λ (o : Row). holds o x) (all .row y (rw (r, ← e) at hy))
+          ∙ holds-grown (modelAtom b) lower (rowIn t (rowOf y)) x
+          ∙ same (knows .decides x y hx hy)
+          (ap (λ (o : Row). holds o x) first ∙ knows .decides x (modelAtom a) hx (rw (← r) at (fits .0)))
+          (knows .decides (modelAtom b) y (rw (← r) at (fits .1)) hy)
 
-      decided : (a b : Atom) → AtomBelow (roles s) a → AtomBelow (roles s) b → rowHas u (rowOf b) a ≡ atMost s (q ∷ known) a b
-      decided a b ha hb =
-          ap (λ (r : Row). holds r a) (all .row b (rw m at hb))
-          ∙ holds-grown (atomOf y) lower (rowIn t (rowOf b)) a
-          ∙ same (knows .decides a b ha hb)
-          (ap (λ (r : Row). holds r a) first ∙ knows .decides a (q .first) ha (rw (← m) at bp))
-          (ap (holds (rowIn t (rowOf b))) second ∙ knows .decides (q .second) b (rw (← m) at br) hb)
+-- the second atom's row holds the first atom or not
+pub query-decided : (t : List ℕ) (a b : CodeAtom) (o : Row) (r : Bool) → o ≡ rowIn t (indexOf b) → r ≡ holds o (modelAtom a) → DecidesQuery t (queryOf a b) r
+unfolding DecidesQuery
+query-decided t a b o r e f s known ok fits knows =
+    f ∙ ap (λ (x : Row). holds x (modelAtom a)) (e ∙ rw (index-is (roles s) b (accepted-facts s ok .roles-fit) (fits .1)))
+    ∙ knows .decides (modelAtom a) (modelAtom b) (fits .0) (fits .1)
+
+-- a query whose first atom is at most its second already adds nothing: what passes through it passed before
+adds-nothing : (s : List ℕ) (known : List Query) (q : Query) → atMost s known (q .first) (q .second) ≡ true → (a b : Atom) → atMost s known a b ≡ atMost s (q ∷ known) a b
+unfolding atMost
+adds-nothing s known q h a b =
+    same-truth _ _ (or-left (atMost s known a b) _)
+    (λ k. ⊎-elim (λ x. x) (λ x. through (both (atMost s known a (q .first)) _ x)) (either (atMost s known a b) _ k))
+  where
+    through : (atMost s known a (q .first) ≡ true) × (atMost s known (q .second) b ≡ true) → atMost s known a b ≡ true
+    through x =
+        derivable-test s known a b
+        (chain (test-derivable s known a (q .first) (x .0)) (chain (test-derivable s known (q .first) (q .second) h) (test-derivable s known (q .second) b (x .1))))
+
+-- so the table itself is the one that knows it too
+pub known-learnt : (n : ℕ) (t : List ℕ) (q : Query) (r : Bool) → DecidesQuery t q r → r ≡ true → Learnt n t t q
+unfolding Learnt DecidesQuery
+known-learnt n t q r f e s known ok m fits knows =
+    let h : atMost s known (q .first) (q .second) ≡ true = sym (f s known ok (rw (← m) at fits) knows) ∙ e in
+    record { long = knows .long; decides = λ a b ha hb. knows .decides a b ha hb ∙ adds-nothing s known q h a b }

@@ -1,5 +1,5 @@
-mod RowLaws
+mod TableLaws
 mod BaseLaws
-mod LearnLaws
+pub mod LearnLaws
 mod DecideLaws
 pub mod Joins

@@ -1,2 +1,3 @@
 pub mod Table
-pub mod Rows
+pub mod Base
+pub mod Learn

@@ -3,4 +3,4 @@
 pub mod base;
 pub mod decide;
 pub mod learn;
-pub mod rows;
+pub mod table;

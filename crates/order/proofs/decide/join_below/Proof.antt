@@ -2,21 +2,8 @@ use Rattle.order.proofs.DecideLaws.{decisions}
 use borrow.Author.Needs.{needs}
 use Rattle.order.proofs.decide.join_below.Statement.{statement}
 use Rattle.order.proofs.decide.join_below.Tie as tie
-use Rattle.order.proofs.decide.join_below.Reads as reads
-use Rattle.order.proofs.decide.join_below.Lts as lts
-use Rattle.order.proofs.rows.index.Reads as index-reads
-use Rattle.order.proofs.rows.read.Reads as read-reads
-use Rattle.policy.proofs.sets.subset.Reads as subset-reads
 
 pub join-below-spec : {M : Type 1} → statement M
 join-below-spec =
     tie.close
-    (tie.spec
-    (λ c κs. search needs)
-    (λ c κs. search needs)
-    (λ c κs. search needs)
-    (λ c. search (needs, decisions))
-    (λ c κs. search needs)
-    (λ c. search (needs, decisions))
-    (λ c κs. search needs)
-    (λ c. search (needs, decisions)))
+    (tie.spec (λ c κs. search needs) (λ c κs. search needs) (λ c. search (needs, decisions)) (λ c κs. search needs) (λ c κs. search needs) (λ c. search (needs, decisions)))

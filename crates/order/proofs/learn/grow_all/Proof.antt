@@ -2,9 +2,6 @@ use Rattle.order.proofs.LearnLaws.{all-grew}
 use borrow.Author.Needs.{needs}
 use Rattle.order.proofs.learn.grow_all.Statement.{statement}
 use Rattle.order.proofs.learn.grow_all.Tie as tie
-use Rattle.order.proofs.learn.grow_all.Reads as reads
-use Rattle.order.proofs.learn.grow_all.Lts as lts
-use Rattle.order.proofs.learn.grow_rows.Reads as grow-rows-reads
 
 pub grow-all-spec : {M : Type 1} → statement M
 grow-all-spec =

@@ -1,15 +1,14 @@
-use Rattle.order.specs.Rows.{Grew, atomOf}
+-- The loop's invariant: the rows passed have grown, all others are as they were.
+use Rattle.program.specs.Codes.{modelAtom}
+use Rattle.order.specs.Learn.{Grew}
 use Prim.Native.Nat.{_≤_, _-_}
 use Rattle.order.proofs.LearnLaws.{grows}
 use borrow.Author.Needs.{needs}
 use Rattle.order.proofs.learn.grow_rows.Statement.{statement}
 use Rattle.order.proofs.learn.grow_rows.Tie as tie
-use Rattle.order.proofs.learn.grow_rows.Reads as reads
-use Rattle.order.proofs.learn.grow_rows.Lts as lts
-use Rattle.order.proofs.learn.grow.Reads as grow-reads
 
 abbrev Inv-loop : tie.InvT-loop
-Inv-loop table₀ from count atom lower i₀ table i = (i ≤ count) × Grew (atomOf atom) lower from i table₀ table
+Inv-loop table₀ from count atom lower i₀ table i = (i ≤ count) × Grew (modelAtom atom) lower from i table₀ table
 
 abbrev μ-loop : tie.MeasureT-loop
 μ-loop table₀ from count atom lower i₀ table i = count - i

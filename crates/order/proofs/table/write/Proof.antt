@@ -1,17 +1,13 @@
 use native.Mathlib.Omega.{arith}
 use lib.ListN.{length-set}
-use Rattle.order.proofs.RowLaws.{written}
+use Rattle.order.proofs.TableLaws.{written}
 use borrow.Author.Needs.{needs}
-use Rattle.order.proofs.rows.write.Statement.{statement}
-use Rattle.order.proofs.rows.write.Tie as tie
-use Rattle.order.proofs.rows.write.Reads as reads
-use Rattle.order.proofs.rows.write.Lts as lts
+use Rattle.order.proofs.table.write.Statement.{statement}
+use Rattle.order.proofs.table.write.Tie as tie
 
--- src/rows.rt:48:5
 slice-write-table-2 : tie.Need-slice-write-table-2
 slice-write-table-2 c = simp length-set (omega arith)
 
--- src/rows.rt:49:5
 slice-write-table-3 : tie.Need-slice-write-table-3
 slice-write-table-3 c = simp length-set (omega arith)
 
