@@ -1,2 +1,0 @@
-// The body of a transaction of an accepted program, as a part of the program's own bytes.
-pub mod span;

@@ -1,0 +1,5 @@
+pub mod PositionLaws
+mod LabelLaws
+mod WriteLaws
+mod BodyLaws
+mod SpanLaws

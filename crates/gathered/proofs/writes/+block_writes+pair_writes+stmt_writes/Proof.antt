@@ -1,0 +1,170 @@
+use Rattle.gathered.proofs.WriteLaws.{Gathering, gatherings, pair-both, writes}
+use borrow.Author.Needs.{needs}
+use Prim.Native.Nat.{ℕ, _<_, _+_, _*_}
+use borrow.Fn.Kinds.{In}
+use borrow.Fn.PlainCycle.{Measures, is, falls, and}
+use Rattle.gathered.proofs.writes.block_writes.Reads as block-writes
+use Rattle.gathered.proofs.writes.block_writes.Kinds as block-writes-kinds
+use Rattle.gathered.proofs.writes.+block_writes+pair_writes+stmt_writes.Lts-block_writes as block-writes-lts
+use Rattle.gathered.proofs.writes.pair_writes.Reads as pair-writes
+use Rattle.gathered.proofs.writes.pair_writes.Kinds as pair-writes-kinds
+use Rattle.gathered.proofs.writes.+block_writes+pair_writes+stmt_writes.Lts-pair_writes as pair-writes-lts
+use Rattle.gathered.proofs.writes.stmt_writes.Reads as stmt-writes
+use Rattle.gathered.proofs.writes.stmt_writes.Kinds as stmt-writes-kinds
+use Rattle.gathered.proofs.writes.+block_writes+pair_writes+stmt_writes.Lts-stmt_writes as stmt-writes-lts
+use Rattle.gathered.proofs.positions.after_expr.Reads as after-expr-reads
+use Rattle.gathered.proofs.positions.after_list.Reads as after-list-reads
+use Rattle.gathered.proofs.positions.ahead.Reads as ahead-reads
+use Rattle.shared.proofs.bytes.byte_at.Reads as byte-at-reads
+use Rattle.gathered.proofs.positions.statement_at.Reads as statement-at-reads
+use Rattle.gathered.proofs.writes.assign_writes.Reads as assign-writes-reads
+use Rattle.gathered.proofs.writes.joined.Reads as joined-reads
+use Rattle.gathered.proofs.writes.nothing.Reads as nothing-reads
+use Rattle.gathered.proofs.writes.update_writes.Reads as update-writes-reads
+use Rattle.gathered.proofs.writes.+block_writes+pair_writes+stmt_writes.{statement}
+use Rattle.gathered.proofs.writes.+block_writes+pair_writes+stmt_writes.Tie.{close}
+
+abbrev μ-block-writes : Measures 1 block-writes-kinds.ps ℕ
+μ-block-writes κs a = 2 * a .1 .0 + 1
+
+abbrev μ-pair-writes : Measures 1 pair-writes-kinds.ps ℕ
+μ-pair-writes κs a = 2 * a .1 .0 + 1
+
+abbrev μ-stmt-writes : Measures 1 stmt-writes-kinds.ps ℕ
+μ-stmt-writes κs a = 2 * a .1 .0
+
+abbrev block-writes-at : ℕ → In 1 block-writes-kinds.ps
+block-writes-at t =
+    and 1 block-writes-kinds.ps (is 1 block-writes-kinds.ps μ-block-writes t) block-writes.Pre
+
+abbrev block-writes-below : ℕ → In 1 block-writes-kinds.ps
+block-writes-below t =
+    and
+    1
+    block-writes-kinds.ps
+    (falls 1 block-writes-kinds.ps _<_ μ-block-writes t)
+    block-writes.Pre
+
+abbrev pair-writes-at : ℕ → In 1 pair-writes-kinds.ps
+pair-writes-at t =
+    and 1 pair-writes-kinds.ps (is 1 pair-writes-kinds.ps μ-pair-writes t) pair-writes.Pre
+
+abbrev pair-writes-below : ℕ → In 1 pair-writes-kinds.ps
+pair-writes-below t =
+    and 1 pair-writes-kinds.ps (falls 1 pair-writes-kinds.ps _<_ μ-pair-writes t) pair-writes.Pre
+
+abbrev stmt-writes-at : ℕ → In 1 stmt-writes-kinds.ps
+stmt-writes-at t =
+    and 1 stmt-writes-kinds.ps (is 1 stmt-writes-kinds.ps μ-stmt-writes t) stmt-writes.Pre
+
+abbrev stmt-writes-below : ℕ → In 1 stmt-writes-kinds.ps
+stmt-writes-below t =
+    and 1 stmt-writes-kinds.ps (falls 1 stmt-writes-kinds.ps _<_ μ-stmt-writes t) stmt-writes.Pre
+
+abbrev block-writes-Inv-loop : block-writes-lts.InvT-loop
+block-writes-Inv-loop program depth at statements₀ all₀ statements all = Gathering program depth at statements all
+
+abbrev block-writes-μ-loop : block-writes-lts.MeasureT-loop
+block-writes-μ-loop program depth at statements₀ all₀ statements all = statements
+
+pub +block-writes+pair-writes+stmt-writes-spec : {M : Type 1} → statement M
++block-writes+pair-writes+stmt-writes-spec =
+    close μ-block-writes μ-pair-writes μ-stmt-writes (λ t. block-writes-lts.spec (
+      byte-at-reads.Asked,
+      byte-at-reads.Learnt,
+      ahead-reads.Asked,
+      ahead-reads.Learnt,
+      nothing-reads.Asked,
+      nothing-reads.Learnt,
+      stmt-writes-below t,
+      stmt-writes.Post,
+      joined-reads.Asked,
+      joined-reads.Learnt,
+    )
+    (block-writes-at t)
+    block-writes.Post
+    block-writes-Inv-loop
+    block-writes-μ-loop
+    (λ c κs. search needs)
+    (λ c κs. search needs)
+    (λ c κs. search needs)
+    (λ c. search (needs, gatherings))
+    (λ c κs. search needs)
+    (λ c κs. search needs)
+    (λ c. search needs)
+    (λ c. search needs)
+    (λ c. search (needs, gatherings))
+    (λ c. search (needs, gatherings)))
+    (λ t. pair-writes-lts.spec (
+      stmt-writes-below t,
+      stmt-writes.Post,
+      joined-reads.Asked,
+      joined-reads.Learnt,
+    )
+    (pair-writes-at t)
+    pair-writes.Post
+    (λ c κs. search needs)
+    (λ c κs. search needs)
+    (λ c κs. search needs)
+    (λ c. search (needs, pair-both)))
+    λ t. stmt-writes-lts.spec (
+      nothing-reads.Asked,
+      nothing-reads.Learnt,
+      statement-at-reads.Asked,
+      statement-at-reads.Learnt,
+      ahead-reads.Asked,
+      ahead-reads.Learnt,
+      assign-writes-reads.Asked,
+      assign-writes-reads.Learnt,
+      block-writes-below t,
+      block-writes.Post,
+      after-expr-reads.Asked,
+      after-expr-reads.Learnt,
+      pair-writes-below t,
+      pair-writes.Post,
+      stmt-writes-below t,
+      stmt-writes.Post,
+      update-writes-reads.Asked,
+      update-writes-reads.Learnt,
+      after-list-reads.Asked,
+      after-list-reads.Learnt,
+    )
+    (stmt-writes-at t)
+    stmt-writes.Post
+    (λ c κs. search needs)
+    (λ c. search (needs, writes))
+    (λ c κs. search needs)
+    (λ c. search needs)
+    (λ c. search needs)
+    (λ c κs. search needs)
+    (λ c. search (needs, writes))
+    (λ c. search needs)
+    (λ c κs. search needs)
+    (λ c. search needs)
+    (λ c κs. search needs)
+    (λ c. search needs)
+    (λ c κs. search needs)
+    (λ c. search needs)
+    (λ c κs. search needs)
+    (λ c. search needs)
+    (λ c κs. search needs)
+    (λ c κs. search needs)
+    (λ c. search needs)
+    (λ c κs. search needs)
+    (λ c κs. search needs)
+    (λ c. search needs)
+    (λ c κs. search needs)
+    (λ c κs. search needs)
+    (λ c. search needs)
+    (λ c κs. search needs)
+    (λ c. search needs)
+    (λ c κs. search needs)
+    (λ c κs. search needs)
+    (λ c. search (needs, writes))
+    (λ c. search (needs, writes))
+    (λ c. search (needs, writes))
+    (λ c. search (needs, writes))
+    (λ c. search (needs, writes))
+    (λ c. search (needs, writes))
+    (λ c. search (needs, writes))
+    (λ c. search (needs, writes))

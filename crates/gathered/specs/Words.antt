@@ -1,0 +1,19 @@
+-- What the walks over a program's bytes gather, as words, of the tree that stands at a position.
+use Prim.Native.Nat.{ℕ, _^_}
+use mathlib.Core.List.{List}
+use mathlib.Core.Bool.{cond}
+use lib.Dec.{eqb}
+use lib.Bits.{bitOr}
+use Rattle.model.specs.Policy.{Side}
+use Rattle.model.specs.Syntax.{Expr, constant, variable, binary}
+use Rattle.model.specs.Program.{labelByte}
+
+-- a label's role as a set; everyone adds nothing
+abbrev pub labelRole : ℕ → ℕ
+labelRole x = cond (eqb x 0xff) 0 (2 ^ x)
+
+-- the roles among the labels of an expression's variables
+unfoldable pub exprRoles : List ℕ → Side → Expr → ℕ
+exprRoles p side (constant n) = 0
+exprRoles p side (variable x) = labelRole (labelByte p side x)
+exprRoles p side (binary op a b) = bitOr (exprRoles p side a) (exprRoles p side b)
