@@ -6,85 +6,96 @@ use Prim.Native.Nat.{ℕ, _+_, _-_, _<_, _≤_}
 use native.Mathlib.Omega.{arith}
 use native.Mathlib.Nat.{lt-of-lt-of-le}
 use mathlib.Core.List.{List, [], _∷_, _++_, List·Memᴰ·head, List·Memᴰ·tail}
-use mathlib.Core.Bool.{Bool, true, false, and-comm, true≢false}
+use mathlib.Core.Bool.{Bool, true, false, true≢false}
 use lib.Bits.{bitOr}
+use lib.ListN.{length}
 use borrow.Author.Tests.{ne-eqb}
+use Rattle.model.specs.Limits.{roleLimit}
 use Rattle.model.specs.Number.{Verdict, fine, refused, require, orElse}
 use Rattle.model.specs.Bytes.{byte}
 use Rattle.model.specs.Policy.{Side, reading, trust, principals, roles, Accepted}
 use Rattle.model.specs.Mutation.{Mutation}
-use Rattle.model.specs.Syntax.{of, everyone, Atom, role, fixed, atomByte, Query, Expr, Stmt, skip, assign, empty, block, if, while, query, update, transaction}
-use Rattle.model.specs.Program.{got, readMany, readExpr, readQuery, readStmt, blockOf}
-use Rattle.model.specs.Order.{joinAtMost}
-use Rattle.model.specs.Flow.{Around as Surroundings, outside, inside, label, exprLabel, queryLabel, listLabel, assigned, rolesOf, mutated, allAllowed, mayAssign, mayUpdate, flow}
+use Rattle.model.specs.Syntax.{Atom, Query as ModelQuery, Expr, Stmt, skip, assign, empty, block, if, while, query as stmtQuery, update, transaction}
+use Rattle.model.specs.Program.{got, variables, readMany, readExpr, readQuery, readStmt, blockOf}
+use Rattle.model.specs.Fits.{Each, MutationFits, ExprFits, Fits}
+use Rattle.model.specs.Flow.{Around as Surroundings, outside, inside, exprLabel, queryLabel, listLabel, assigned, rolesOf, mutated, listedIn, allAllowed, mayAssign, mayUpdate, flow}
 use Rattle.model.proofs.Accepted.{accepted-facts}
 use Rattle.model.proofs.Sets.{has-zero, or-has, with-has}
-use Rattle.model.proofs.Fits.{Each, AtomFits, QueryFits, MutationFits, ExprFits, Fits}
-use Rattle.order.specs.Table.{AtomBelow, QueryBelow, queryRoles, listRoles, Learnt}
-use Rattle.order.proofs.Joins.{join-both}
-use Rattle.walk.specs.declared.labels.Labels.{Labels}
-use Rattle.walk.specs.declared.writes.Writes.{Writes}
-use Rattle.walk.specs.Positions.{ahead, afterList}
-use Rattle.walk.specs.Labels.{LabelsBelow, exprLabels, LabelsAt}
-use Rattle.walk.specs.Writes.{stmtWrites, WritesAt}
-use Rattle.walk.proofs.PositionLaws.{ahead-is, list-is}
-use Rattle.walk.proofs.Readings.{many-none, many-more, mutations-end, stmt-deep, stmt-there, other-parts, assign-parts, block-parts, if-parts, while-parts, branch-parts, update-parts, transaction-parts}
+use Rattle.model.proofs.Standing.{many-none, many-more, query-parts, mutations-end, stmt-deep, stmt-there, stmt-known, skip-parts, assign-parts, block-parts, if-parts, while-parts, branch-parts, update-parts, transaction-parts}
+use Rattle.program.specs.declared.answer.Answer.{Answer}
+use Rattle.program.specs.declared.answer.Answer.the-variants.{At, Refused}
+use Rattle.program.specs.declared.codes.Atom.{Atom as CodeAtom}
+use Rattle.program.specs.declared.codes.Statement.{Statement}
+use Rattle.program.specs.declared.codes.Statement.the-variants.{Skip, Assign, Block, If, While, Query, Update, Transaction}
+use Rattle.program.specs.declared.codes.StatementOf.{StatementOf}
+use Rattle.program.specs.declared.codes.StatementOf.the-variants as statement
+use Rattle.program.specs.Answer.{Reached, reached, stopped, reachedBy}
+use Rattle.program.specs.Codes.{statementOf, statementByte}
+use Rattle.program.proofs.CodeLaws.{statement-byte, statement-none}
+use Rattle.order.specs.Table.{tableWords, queryOf, queryRoles, listRoles, Learnt, DecidesQuery}
+use Rattle.order.proofs.LearnLaws.{known-learnt}
+use Rattle.gathered.specs.declared.labels.Labels.{Labels}
+use Rattle.gathered.specs.declared.writes.Writes.{Writes}
+use Rattle.gathered.specs.Positions.{ahead, afterList}
+use Rattle.gathered.specs.Labels.{LabelsBelow, exprLabels, LabelsAt}
+use Rattle.gathered.specs.Writes.{stmtWrites, WritesAt}
+use Rattle.gathered.proofs.PositionLaws.{ahead-is, list-is}
+use Rattle.flow.specs.declared.context.Around.{Around}
 use Rattle.flow.specs.declared.context.Context.{Context}
-use Rattle.flow.specs.declared.check.Sizes.{Sizes}
-use Rattle.flow.specs.declared.check.Around.{Around}
-use Rattle.flow.specs.declared.check.Checked.{Checked}
-use Rattle.flow.specs.declared.check.Checked.the-variants.{Next, Refused}
-use Rattle.flow.specs.Lists.{ListedAt, NamedRoles, ListRolesAt, AllowedAt}
-use Rattle.flow.specs.Context.{ContextIs, withLabels, withNamed}
-use Rattle.flow.specs.Judge.{SetBelow, sidesNumber, Asked, labelsAbove, watchersAbove, WriteNumber, AssignNumber}
-use Rattle.flow.specs.Check.{checkedOf, checkedNumber, Inside, AroundIs, Stands, StmtAt, StmtFits, CheckedAt, CodedAt, AssignAt, UpdateAt, PairAt, BranchesAt, bodyStart, EnteredAt}
-use Rattle.flow.proofs.ContextLaws.{context-expr, context-query, context-list}
+use Rattle.flow.specs.declared.lists.QueryOf.{QueryOf}
+use Rattle.flow.specs.declared.lists.QueryOf.the-variants as query
+use Rattle.flow.specs.Lists.{ListedAt, QueryNames, QueryAt, ListRolesAt, AllowedAt}
+use Rattle.flow.specs.Context.{ContextIs, withLabels, withNamed, within}
+use Rattle.flow.specs.Judge.{SetBelow, sidesNumber, Asked, allAbove, WriteNumber, AssignNumber}
+use Rattle.flow.specs.Check.{checkedTo, numbered, Ready, Inside, AroundIs, Stands, StmtAt, StmtFits, CheckedAt, CodedAt, AssignAt, UpdateAt, PairAt, BranchAt, BranchesAt, AskedAt, bodyStart, EnteredAt}
+use Rattle.flow.proofs.ContextLaws.{context-expr, context-query, context-list, context-around}
+use Rattle.flow.proofs.ListLaws.{query-not, query-is}
 
 -- answers
-pub answer-fine : (k place end : ℕ) → k ≡ 0 → Next end ≡ checkedNumber k place end
-unfolding checkedNumber
+pub answer-fine : (k place end : ℕ) → k ≡ 0 → reached end ≡ numbered k place end
+unfolding numbered
 answer-fine k place end e = rw e
 
-pub answer-refused : (k place end : ℕ) → (k ≡ 0 → ⊥) → Refused k place ≡ checkedNumber k place end
-unfolding checkedNumber
+pub answer-refused : (k place end : ℕ) → (k ≡ 0 → ⊥) → stopped k place ≡ numbered k place end
+unfolding numbered
 answer-refused k place end n = rw (ne-eqb k 0 n)
 
 pub ruleset answers = (answer-fine, answer-refused)
 
-next-not : {A : Type 0} {m k place : ℕ} → _≡_ {A = Checked} (Next m) (Refused k place) → A
-next-not e = let z : _≡_ {A = ℕ} 0 1 = cc in absurd (omega arith)
+reached-not : {A : Type 0} {m k place : ℕ} → reached m ≡ stopped k place → A
+reached-not e = let z : _≡_ {A = ℕ} 0 1 = cc in absurd (omega arith)
 
-sides-checked : (a b : Bool) (at end : ℕ) → checkedNumber (sidesNumber a b) at end ≡ checkedOf (require a 17 at (require b 18 at fine)) end
-unfolding checkedNumber checkedOf
+sides-checked : (a b : Bool) (at end : ℕ) → numbered (sidesNumber a b) at end ≡ checkedTo (require a 17 at (require b 18 at fine)) end
+unfolding numbered checkedTo
 sides-checked true true at end = refl
 sides-checked true false at end = refl
 sides-checked false b at end = refl
 
 -- two verdicts one after the other
-module _ (v w : Verdict) (mid end : ℕ) (r : Checked) (e : r ≡ checkedOf v mid) where
-  or-refused : (k place : ℕ) → r ≡ Refused k place → r ≡ checkedOf (orElse v w) end
-  unfolding checkedOf
-  or-refused k place h = go v e
+module _ (v w : Verdict) (mid end : ℕ) (r : Reached) (e : r ≡ checkedTo v mid) where
+  or-stopped : (k place : ℕ) → r ≡ stopped k place → r ≡ checkedTo (orElse v w) end
+  unfolding checkedTo
+  or-stopped k place h = go v e
     where
-      go : (v : Verdict) → r ≡ checkedOf v mid → r ≡ checkedOf (orElse v w) end
-      go fine e = next-not (sym e ∙ h)
+      go : (v : Verdict) → r ≡ checkedTo v mid → r ≡ checkedTo (orElse v w) end
+      go fine e = reached-not (sym e ∙ h)
       go (refused l n) e = e
 
-  next-is : (m : ℕ) → r ≡ Next m → m ≡ mid
-  unfolding checkedOf
-  next-is m h = go v e
+  reached-is : (m : ℕ) → r ≡ reached m → m ≡ mid
+  unfolding checkedTo
+  reached-is m h = go v e
     where
-      go : (v : Verdict) → r ≡ checkedOf v mid → m ≡ mid
+      go : (v : Verdict) → r ≡ checkedTo v mid → m ≡ mid
       go fine e = cc
-      go (refused l n) e = next-not (sym h ∙ e)
+      go (refused l n) e = reached-not (sym h ∙ e)
 
-  or-next : (m : ℕ) → r ≡ Next m → orElse v w ≡ w
-  unfolding checkedOf
-  or-next m h = go v e
+  or-reached : (m : ℕ) → r ≡ reached m → orElse v w ≡ w
+  unfolding checkedTo
+  or-reached m h = go v e
     where
-      go : (v : Verdict) → r ≡ checkedOf v mid → orElse v w ≡ w
+      go : (v : Verdict) → r ≡ checkedTo v mid → orElse v w ≡ w
       go fine e = refl
-      go (refused l n) e = next-not (sym h ∙ e)
+      go (refused l n) e = reached-not (sym h ∙ e)
 
 -- what a statement that fits writes
 zero-below : (n : ℕ) → SetBelow 0 n
@@ -102,7 +113,7 @@ module _ (P R vars : ℕ) where
   assigned-below (block a b) f = or-below (assigned a) (assigned b) vars (assigned-below a (f .0)) (assigned-below b (f .1))
   assigned-below (if e a b) f = or-below (assigned a) (assigned b) vars (assigned-below a (f .1)) (assigned-below b (f .2))
   assigned-below (while e a) f = assigned-below a (f .1)
-  assigned-below (query at q a b) f = or-below (assigned a) (assigned b) vars (assigned-below a (f .1)) (assigned-below b (f .2))
+  assigned-below (stmtQuery at q a b) f = or-below (assigned a) (assigned b) vars (assigned-below a (f .1)) (assigned-below b (f .2))
   assigned-below (update at ms) f = zero-below vars
   assigned-below (transaction at start end qs a) f = assigned-below a (f .1)
 
@@ -120,278 +131,312 @@ module _ (P R vars : ℕ) where
   mutated-below (block a b) f = or-below (mutated a) (mutated b) R (mutated-below a (f .0)) (mutated-below b (f .1))
   mutated-below (if e a b) f = or-below (mutated a) (mutated b) R (mutated-below a (f .1)) (mutated-below b (f .2))
   mutated-below (while e a) f = mutated-below a (f .1)
-  mutated-below (query at q a b) f = or-below (mutated a) (mutated b) R (mutated-below a (f .1)) (mutated-below b (f .2))
+  mutated-below (stmtQuery at q a b) f = or-below (mutated a) (mutated b) R (mutated-below a (f .1)) (mutated-below b (f .2))
   mutated-below (update at ms) f = roles-below ms f
   mutated-below (transaction at start end qs a) f = mutated-below a (f .1)
 
--- atoms that fit are below
-atom-fits : (R n : ℕ) → R ≤ n → (a : Atom) → AtomFits R a → AtomBelow n a
-atom-fits R n l (role j) f = lt-of-lt-of-le f l
-atom-fits R n l (fixed (of side j)) f = lt-of-lt-of-le f l
-atom-fits R n l (fixed everyone) f = tt
-
-query-fits : (R n : ℕ) → R ≤ n → (q : Query) → QueryFits R q → QueryBelow n q
-query-fits R n l q f = (atom-fits R n l (q .first) (f .0), atom-fits R n l (q .second) (f .1))
-
 -- what stands for what, kept up
-module _ {s p t : List ℕ} {z : Sizes} {a : Around} {c : Context} {around : Surroundings} {known : List Query} {C : Side → List Atom} (st : Stands s p t z a c around known C) where
-  stands-asked : Asked s t c known C
-  stands-asked = record { is-accepted = st .is-accepted; knows = st .knows; context = st .context }
+module _ {s p t : List ℕ} {c : Context} {around : Surroundings} {known : List ModelQuery} {C : Side → List Atom} (st : Stands s p t c around known C) where
+  stands-asked : Asked s p t c known C
+  stands-asked = record { is-accepted = st .is-accepted; labels = st .labels; knows = st .knows; context = st .context }
 
-  roles-few : z .roles ≤ 64
-  roles-few = omega (arith, accepted-facts s (st .is-accepted) .roles-fit, st .roles-are)
+  roles-few : roles s ≤ roleLimit
+  roles-few = accepted-facts s (st .is-accepted) .roles-fit
 
-  stands-context : {k : Context} {K : Side → List Atom} → ContextIs (roles s) k K → Stands s p t z a k around known K
-  stands-context h = record {
+  -- under another context with the same transaction around it
+  stands-context : {k : Context} {K : Side → List Atom} → k .around ≡ c .around → ContextIs (roles s) k K → Stands s p t k around known K
+  stands-context e h = record {
     is-accepted = st .is-accepted;
-    principals-are = st .principals-are;
-    roles-are = st .roles-are;
     few = st .few;
     labels = st .labels;
     knows = st .knows;
-    surrounded = st .surrounded;
+    surrounded = rw e (st .surrounded);
     context = h;
   }
 
-  labels-are : (q : ℕ) (l : Labels) (e : Expr) (end : ℕ) → LabelsAt p (z .vars) 16 q l → readExpr p (z .vars) 16 q ≡ got e end → l ≡ exprLabels p e end
+  labels-are : (q : ℕ) (l : Labels) (e : Expr) (end : ℕ) → LabelsAt p 16 q l → readExpr p (variables p) 16 q ≡ got e end → l ≡ exprLabels p e end
   unfolding LabelsAt LabelsBelow
-  labels-are q l e end f h =
-      f (λ side x i n. lt-of-lt-of-le (st .labels side x i n) (accepted-facts s (st .is-accepted) .roles-fit)) e end h
+  labels-are q l e end f h = f (variables p) (λ side x i n. lt-of-lt-of-le (st .labels side x i n) roles-few) e end h
 
-  under-expr : (l : Labels) (k : Context) (e : Expr) (end : ℕ) → l ≡ exprLabels p e end → k ≡ withLabels c l → ExprFits (z .vars) e → Stands s p t z a k around known (λ side. exprLabel p side e ++ C side)
+  under-expr : (l : Labels) (k : Context) (e : Expr) (end : ℕ) → l ≡ exprLabels p e end → k ≡ withLabels c l → ExprFits (variables p) e → Stands s p t k around known (λ side. exprLabel p side e ++ C side)
   under-expr l k e end f g h =
       let i : k ≡ withLabels c (exprLabels p e end) = g ∙ ap (withLabels c) f in
-      stands-context (rw i (context-expr (roles s) c C (st .context) p (z .vars) e end (st .labels) h))
+      stands-context (ap (λ (c : Context). c .around) i) (rw i (context-expr (roles s) c C (st .context) p (variables p) e end (st .labels) h))
 
 -- a transaction around, or none
 record Within (p : List ℕ) (R vars : ℕ) (a : Around) (around : Surroundings) : Type 0 where
-  pub listed : List Query
+  pub listed : List ModelQuery
   pub xs : ℕ
   pub rs : ℕ
   pub is : around ≡ inside listed xs rs
   pub parts : Inside p R vars a listed xs rs
 
-within : (p : List ℕ) (R vars : ℕ) (a : Around) (known : List Query) (around : Surroundings) → AroundIs p R vars a known around → a .inside ≡ true → Within p R vars a around
-within p R vars a known outside h e = absurd (true≢false (sym e ∙ h .0))
-within p R vars a known (inside listed xs rs) h e = record { listed = listed; xs = xs; rs = rs; is = refl; parts = h }
+within-one : (p : List ℕ) (R vars : ℕ) (a : Around) (around : Surroundings) → AroundIs p R vars a around → a .inside ≡ true → Within p R vars a around
+within-one p R vars a outside h e = absurd (true≢false (sym e ∙ h))
+within-one p R vars a (inside listed xs rs) h e = record { listed = listed; xs = xs; rs = rs; is = refl; parts = h }
 
-without : (p : List ℕ) (R vars : ℕ) (a : Around) (known : List Query) (around : Surroundings) → AroundIs p R vars a known around → a .inside ≡ false → (around ≡ outside) × (known ≡ [])
-without p R vars a known outside h e = (refl, h .1)
-without p R vars a known (inside listed xs rs) h e = absurd (true≢false (sym (h .flag) ∙ e))
+within-none : (p : List ℕ) (R vars : ℕ) (a : Around) (around : Surroundings) → AroundIs p R vars a around → a .inside ≡ false → around ≡ outside
+within-none p R vars a outside h e = refl
+within-none p R vars a (inside listed xs rs) h e = absurd (true≢false (sym (h .flag) ∙ e))
 
 -- an assignment
-assign-side : (s p : List ℕ) (known : List Query) (C : Side → List Atom) (x : ℕ) (e : Expr) (side : Side) → joinAtMost s known (exprLabel p side e ++ C side) (label p side x) ≡ mayAssign s p known C x e side
-unfolding mayAssign
-assign-side s p known C x e side = join-both s known (exprLabel p side e) (C side) (label p side x) ∙ and-comm (joinAtMost s known (exprLabel p side e) (label p side x)) (joinAtMost s known (C side) (label p side x))
-
-pub assign-checked : (p t : List ℕ) (z : Sizes) (c : Context) (at q x m : ℕ) (l : Labels) (k : Context) (n : ℕ) (r : Checked)
-    → q ≡ ahead p at 1 → x ≡ byte p q → m ≡ ahead p at 2 → LabelsAt p (z .vars) 16 m l → k ≡ withLabels c l
-    → AssignNumber p t k x n → r ≡ checkedNumber n at (l .next) → AssignAt p t z c at r
-unfolding AssignAt CodedAt CheckedAt AssignNumber flow
-assign-checked p t z c at q x m l k n r e₁ e₂ e₃ f g h j s a d code around known C y end st i fit =
-    let u = assign-parts p (z .principals) (z .roles) (z .vars) d at i code in
+pub assign-checked : (p t : List ℕ) (c : Context) (at q x m : ℕ) (l : Labels) (k : Context) (n : ℕ) (r : Answer)
+    → q ≡ ahead p at 1 → x ≡ byte p q → m ≡ ahead p at 2 → LabelsAt p 16 m l → k ≡ withLabels c l
+    → AssignNumber p t k x n → reachedBy r ≡ numbered n at (l .next) → AssignAt p t c at r
+unfolding AssignAt CheckedAt AssignNumber flow mayAssign
+assign-checked p t c at q x m l k n r e₁ e₂ e₃ f g h j s d code around known C y end st i fit =
+    let u = assign-parts p (principals s) (roles s) (variables p) d at i code in
     let xe : x ≡ byte p (at + 1) = e₂ ∙ ap (byte p) (e₁ ∙ ahead-is p at 1 (omega (arith, u .inside))) in
     let me : m ≡ at + 2 = e₃ ∙ ahead-is p at 2 (u .inside) in
     let le : l ≡ exprLabels p (u .value) end = labels-are st m l (u .value) end f (rw me (u .value-read)) in
     let w = rw (u .is) at fit in
     let b = under-expr st l k (u .value) end le g (w .1) in
-    let v = h s known (λ side. exprLabel p side (u .value) ++ C side) (z .vars) (stands-asked b) (st .labels) (rw xe (u .fits)) in
-    rw (u .is, j, v, le, ← xe, assign-side s p known C x (u .value) reading, assign-side s p known C x (u .value) trust)
+    let v = h s known (λ side. exprLabel p side (u .value) ++ C side) (stands-asked b) (rw xe (u .fits)) in
+    rw (u .is, j, v, le, ← xe)
     (sides-checked (mayAssign s p known C x (u .value) reading) (mayAssign s p known C x (u .value) trust) at end)
 
 -- an update
 write-same : (p t : List ℕ) (l : Context) (y : ℕ) {xs xs′ rs rs′ : ℕ} → xs ≡ xs′ → rs ≡ rs′ → WriteNumber p t l xs rs y → WriteNumber p t l xs′ rs′ y
 write-same p t l y e f h = rw (← e, ← f) h
 
-module _ (s p t : List ℕ) (a : Around) (c : Context) (at : ℕ) where
-  pub update-outside : a .inside ≡ false → UpdateAt s p t a c at (Refused 15 at)
-  unfolding UpdateAt CodedAt CheckedAt flow checkedOf
-  update-outside e z d code around known C x end st h fit =
-      let u = update-parts p (z .principals) (z .roles) (z .vars) d at h code in
-      let w = without p (z .roles) (z .vars) a known around (st .surrounded) e in
-      rw (u .is, w .0)
+module _ (s p t : List ℕ) (c : Context) (at : ℕ) where
+  pub update-outside : c .around .inside ≡ false → UpdateAt s p t c at (Refused 15 at)
+  unfolding UpdateAt CheckedAt flow checkedTo
+  update-outside e d code around known C x end st h fit =
+      let u = update-parts p (principals s) (roles s) (variables p) d at h code in
+      rw (u .is, within-none p (roles s) (variables p) (c .around) around (st .surrounded) e)
 
-  module _ (e : a .inside ≡ true) (q n m : ℕ) (b : Bool) (i : q ≡ ahead p at 1) (j : n ≡ byte p q) (k : m ≡ ahead p at 2) (f : AllowedAt s p n m b) where
-    allowed-is : (z : Sizes) (d : ℕ) (x : Stmt) (end : ℕ) → principals s ≡ z .principals → roles s ≡ z .roles → Accepted s → (h : StmtAt p z d at x end) → (code : byte p at ≡ 6) → b ≡ allAllowed s (update-parts p (z .principals) (z .roles) (z .vars) d at h code .mutations)
+  module _ (e : c .around .inside ≡ true) (q n m : ℕ) (b : Bool) (i : q ≡ ahead p at 1) (j : n ≡ byte p q) (k : m ≡ ahead p at 2) (f : AllowedAt s p n m b) where
+    allowed-is : (d : ℕ) (x : Stmt) (end : ℕ) → Accepted s → (h : StmtAt s p d at x end) → (code : byte p at ≡ 6) → b ≡ allAllowed s (update-parts p (principals s) (roles s) (variables p) d at h code .mutations)
     unfolding AllowedAt
-    allowed-is z d x end ps rs ok h code =
-        let u = update-parts p (z .principals) (z .roles) (z .vars) d at h code in
+    allowed-is d x end ok h code =
+        let u = update-parts p (principals s) (roles s) (variables p) d at h code in
         let ne : n ≡ byte p (at + 1) = j ∙ ap (byte p) (i ∙ ahead-is p at 1 (omega (arith, u .inside))) in
         let me : m ≡ at + 2 = k ∙ ahead-is p at 2 (u .inside) in
-        f (u .mutations) end ok (rw (ne, me, ps, rs) (u .mutations-read))
+        f (u .mutations) end ok (rw (ne, me) (u .mutations-read))
 
-    pub update-grant : b ≡ false → UpdateAt s p t a c at (Refused 16 at)
-    unfolding UpdateAt CodedAt CheckedAt flow checkedOf
-    update-grant g z d code around known C x end st h fit =
-        let u = update-parts p (z .principals) (z .roles) (z .vars) d at h code in
-        let w = within p (z .roles) (z .vars) a known around (st .surrounded) e in
-        let v = sym (allowed-is z d x end (st .principals-are) (st .roles-are) (st .is-accepted) h code) ∙ g in
+    pub update-grant : b ≡ false → UpdateAt s p t c at (Refused 16 at)
+    unfolding UpdateAt CheckedAt flow checkedTo
+    update-grant g d code around known C x end st h fit =
+        let u = update-parts p (principals s) (roles s) (variables p) d at h code in
+        let w = within-one p (roles s) (variables p) (c .around) around (st .surrounded) e in
+        let v = sym (allowed-is d x end (st .is-accepted) h code) ∙ g in
         rw (u .is, w .is, v)
 
-    pub update-number : (l : Context) (y o : ℕ) (r : Checked) → b ≡ true → l ≡ withNamed c (a .named) → WriteNumber p t l (a .variables) (a .roles) y → o ≡ afterList p at 3 → r ≡ checkedNumber y at o → UpdateAt s p t a c at r
-    unfolding UpdateAt CodedAt CheckedAt WriteNumber flow mayUpdate labelsAbove watchersAbove
-    update-number l y o r g le h oe re z d code around known C x end st i fit =
-        let u = update-parts p (z .principals) (z .roles) (z .vars) d at i code in
-        let w = within p (z .roles) (z .vars) a known around (st .surrounded) e in
-        let v = sym (allowed-is z d x end (st .principals-are) (st .roles-are) (st .is-accepted) i code) ∙ g in
-        let ends = mutations-end p (z .principals) (z .roles) (byte p (at + 1)) (at + 2) (u .mutations-read) (u .inside) in
+    pub update-number : (l : Context) (y o : ℕ) (r : Answer) → b ≡ true → l ≡ withNamed c (c .around .named) → WriteNumber p t l (c .around .variables) (c .around .roles) y → o ≡ afterList p at 3 → reachedBy r ≡ numbered y at o → UpdateAt s p t c at r
+    unfolding UpdateAt CheckedAt WriteNumber flow mayUpdate allAbove
+    update-number l y o r g le h oe re d code around known C x end st i fit =
+        let u = update-parts p (principals s) (roles s) (variables p) d at i code in
+        let w = within-one p (roles s) (variables p) (c .around) around (st .surrounded) e in
+        let v = sym (allowed-is d x end (st .is-accepted) i code) ∙ g in
+        let ends = mutations-end p (principals s) (roles s) (byte p (at + 1)) (at + 2) (u .mutations-read) (u .inside) in
         let oo : o ≡ end = oe ∙ list-is p at 3 (omega arith) ∙ sym (ends .0) in
         let lc : l ≡ withNamed c (listRoles (w .listed)) = le ∙ ap (withNamed c) (w .parts .named-are) in
-        let cl : ContextIs (roles s) l (λ side. C side ++ listLabel side (w .listed)) = rw lc (context-list (roles s) c C (st .context) (w .listed) (rw (st .roles-are) (w .parts .listed-below))) in
-        let b = stands-context st cl in
+        let cl : ContextIs (roles s) l (λ side. C side ++ listLabel side (w .listed)) = rw lc (context-list (roles s) c C (st .context) (roles-few st) (w .listed) (w .parts .listed-below)) in
+        let b = stands-context st (ap (λ (c : Context). c .around) lc) cl in
         let K : Side → List Atom = λ side. C side ++ listLabel side (w .listed) in
-        let n = write-same p t l y (w .parts .variables-are) (w .parts .roles-are) h s known K (z .vars) (stands-asked b) (st .labels) (w .parts .variables-below) (rw (st .roles-are) (w .parts .roles-below)) in
+        let n = write-same p t l y (w .parts .variables-are) (w .parts .roles-are) h s known K (stands-asked b) (w .parts .variables-below) (w .parts .roles-below) in
         rw (u .is, w .is, v, re, oo, n) (sides-checked (mayUpdate s p known C (w .listed) (w .xs) (w .rs) reading) (mayUpdate s p known C (w .listed) (w .xs) (w .rs) trust) at end)
 
 pub ruleset updates = (update-outside, update-grant, update-number)
 
 -- entering a transaction
-pub entered-is : (p : List ℕ) (z : Sizes) (d at q n l m w : ℕ) (v : Writes) → q ≡ ahead p at 1 → n ≡ byte p q → l ≡ ahead p at 2 → m ≡ afterList p at 2
-    → WritesAt p (z .principals) (z .roles) (z .vars) d m v → ListRolesAt p n l w
-    → EnteredAt p z d at (record { inside = true; list = l; count = n; named = w; variables = v .variables; roles = v .roles })
+pub entered-is : (p : List ℕ) (d at q n l m w : ℕ) (v : Writes) → q ≡ ahead p at 1 → n ≡ byte p q → l ≡ ahead p at 2 → m ≡ afterList p at 2
+    → WritesAt p d m v → ListRolesAt p n l w
+    → EnteredAt p d at (record { inside = true; list = l; count = n; named = w; variables = v .variables; roles = v .roles })
 unfolding EnteredAt WritesAt ListRolesAt
-entered-is p z d at q n l m w v e₁ e₂ e₃ e₄ f g listed body end few few′ h i j k fit =
+entered-is p d at q n l m w v e₁ e₂ e₃ e₄ f g P R vars listed body end few few′ h i j k fit =
     let ne : n ≡ byte p (at + 1) = e₂ ∙ ap (byte p) (e₁ ∙ ahead-is p at 1 (omega arith)) in
     let le : l ≡ at + 2 = e₃ ∙ ahead-is p at 2 (omega arith) in
     let me : m ≡ bodyStart p at = e₄ ∙ list-is p at 2 h in
-    let x : v ≡ stmtWrites body end = f (few, few′) body end (rw me k) in
-    let y : readMany (readQuery p (z .roles)) n l ≡ got listed (bodyStart p at) = rw (ne, le) i in
+    let x : v ≡ stmtWrites body end = f P R vars (few, few′) body end (rw me k) in
+    let y : readMany (readQuery p R) n l ≡ got listed (bodyStart p at) = rw (ne, le) i in
     record {
       flag = refl;
       end = bodyStart p at;
       listed-read = y;
-      listed-below = λ o u. query-fits (z .roles) (z .roles) (omega arith) o (j o u);
-      named-are = g (z .roles) listed (bodyStart p at) y;
+      listed-below = j;
+      named-are = g R listed (bodyStart p at) y;
       variables-are = ap (λ (r : Writes). r .variables) x;
-      variables-below = assigned-below (z .principals) (z .roles) (z .vars) body fit;
+      variables-below = assigned-below P R vars body fit;
       roles-are = ap (λ (r : Writes). r .roles) x;
-      roles-below = mutated-below (z .principals) (z .roles) (z .vars) body fit;
+      roles-below = mutated-below P R vars body fit;
     }
 
 -- two statements
-module _ (s p t : List ℕ) (z : Sizes) (a : Around) (c : Context) (d at : ℕ) (o : Checked) (f : CheckedAt s p t z a c d at o) where
-  pub pair-first : (k place : ℕ) → o ≡ Refused k place → PairAt s p t z a c d at o
+module _ (s p t : List ℕ) (c : Context) (d at : ℕ) (o : Answer) (f : CheckedAt s p t c d at o) where
+  pub pair-first : (k place : ℕ) → o ≡ Refused k place → PairAt s p t c d at o
   unfolding CheckedAt PairAt
-  pair-first k place e around known C x y mid end st h fit i fit′ = or-refused _ _ mid end o (f around known C x mid st h fit) k place e
+  pair-first k place e around known C x y mid end st h fit i fit′ = or-stopped _ _ mid end (reachedBy o) (f around known C x mid st h fit) k place (ap reachedBy e)
 
-  pub pair-second : (m : ℕ) (r : Checked) → o ≡ Next m → CheckedAt s p t z a c d m r → PairAt s p t z a c d at r
+  pub pair-second : (m : ℕ) (r : Answer) → o ≡ At m → CheckedAt s p t c d m r → PairAt s p t c d at r
   unfolding CheckedAt PairAt
   pair-second m r e g around known C x y mid end st h fit i fit′ =
       let v = f around known C x mid st h fit in
-      let k : m ≡ mid = next-is _ (flow s p around known C y) mid end o v m e in
-      g around known C y end st (rw k i) fit′ ∙ rw (or-next _ (flow s p around known C y) mid end o v m e)
+      let k : m ≡ mid = reached-is _ (flow s p around known C y) mid end (reachedBy o) v m (ap reachedBy e) in
+      g around known C y end st (rw k i) fit′ ∙ rw (or-reached _ (flow s p around known C y) mid end (reachedBy o) v m (ap reachedBy e))
 
 pub ruleset pairs = (pair-first, pair-second)
 
--- one more query known
-pub learnt-is : (n m : ℕ) (t u : List ℕ) (x y : ℕ) → n ≡ m → Learnt n t u x y → Learnt m t u x y
-learnt-is n m t u x y e f = rw (← e) f
-
--- the branches of a query
-module _ (s p t k : List ℕ) (z : Sizes) (a : Around) (c : Context) (d at b e : ℕ) (l : Learnt (z .roles) t k b e) (o : Checked) (f : CheckedAt s p k z a c d at o) where
-  first-branch : (listed : List Query) (xs rs : ℕ) (known : List Query) (C : Side → List Atom) (q : Query) (x : Stmt) (mid : ℕ)
-      → atomByte (q .first) ≡ b → atomByte (q .second) ≡ e → QueryBelow (z .roles) q
-      → Stands s p t z a c (inside listed xs rs) known C → StmtAt p z d at x mid → StmtFits z x
-      → o ≡ checkedOf (flow s p (inside listed xs rs) (q ∷ known) C x) mid
-  unfolding CheckedAt Learnt
-  first-branch listed xs rs known C q x mid i j n st h fit =
-      f (inside listed xs rs) (q ∷ known) C x mid (record {
+-- one more query known, by a table of its own or by the same table
+module _ (s p t : List ℕ) (c : Context) (d at : ℕ) (q : ModelQuery) (r : Answer) where
+  known-by : (k : List ℕ) → Learnt (roles s) t k q → CheckedAt s p k c d at r → BranchAt s p t c d at q true r
+  unfolding CheckedAt BranchAt Learnt
+  known-by k l f around known C x end fits st h fit =
+      f around (q ∷ known) C x end (record {
         is-accepted = st .is-accepted;
-        principals-are = st .principals-are;
-        roles-are = st .roles-are;
         few = st .few;
         labels = st .labels;
-        knows = l s known q (st .is-accepted) (st .roles-are) i j (n .0) (n .1) (st .knows);
+        knows = l s known (st .is-accepted) refl fits (st .knows);
         surrounded = st .surrounded;
         context = st .context;
       }) h fit
 
-  pub branches-first : (n place : ℕ) → o ≡ Refused n place → BranchesAt s p t z a c d at b e o
-  unfolding BranchesAt
-  branches-first n place g listed xs rs known C q x y mid end i j below st h fit h′ fit′ =
-      or-refused _ _ mid end o (first-branch listed xs rs known C q x mid i j below st h fit) n place g
+  pub known-already : (b : Bool) → DecidesQuery t q b → b ≡ true → CheckedAt s p t c d at r → BranchAt s p t c d at q true r
+  known-already b f e = known-by t (known-learnt (roles s) t q b f e)
 
-  pub branches-second : (m : ℕ) (r : Checked) → o ≡ Next m → CheckedAt s p t z a c d m r → BranchesAt s p t z a c d at b e r
-  unfolding BranchesAt CheckedAt
-  branches-second m r g w listed xs rs known C q x y mid end i j below st h fit h′ fit′ =
-      let v = first-branch listed xs rs known C q x mid i j below st h fit in
-      let k : m ≡ mid = next-is _ (flow s p (inside listed xs rs) known C y) mid end o v m g in
-      w (inside listed xs rs) known C y end st (rw k h′) fit′ ∙ rw (or-next _ (flow s p (inside listed xs rs) known C y) mid end o v m g)
+  pub known-now : (k : List ℕ) (n : ℕ) → n ≡ roles s → Learnt n t k q → CheckedAt s p k c d at r → BranchAt s p t c d at q true r
+  known-now k n e l = known-by k (rw e at l)
+
+pub ruleset knowns = (known-already, known-now)
+
+-- what an accepted policy has: few roles
+pub roles-fit : (s t : List ℕ) (n : ℕ) → Ready s t → n ≡ roles s → n ≤ 64
+roles-fit s t n ready e = rw e (accepted-facts s (ready .is-accepted) .roles-fit)
+
+pub ready-too : (s t k : List ℕ) → Ready s t → length k ≡ tableWords → Ready s k
+ready-too s t k ready l = record { is-accepted = ready .is-accepted; long = l }
+
+pub ruleset readies = (roles-fit, ready-too)
+
+-- a branch that knows the query, and one that does not
+module _ (s p t : List ℕ) (c : Context) (d at : ℕ) (q : ModelQuery) (knows : Bool) (r : Answer) where
+  pub branch-known : knows ≡ true → BranchAt s p t c d at q true r → BranchAt s p t c d at q knows r
+  branch-known e f = rw e f
+
+  pub branch-other : knows ≡ false → CheckedAt s p t c d at r → BranchAt s p t c d at q knows r
+  unfolding CheckedAt BranchAt
+  branch-other e f = rw e (λ around known C x end fits st h fit. f around known C x end st h fit)
+
+pub ruleset one-branch = (branch-known, branch-other)
+
+-- the branches of a query
+module _ (s p t : List ℕ) (c : Context) (d at : ℕ) (q : ModelQuery) (o : Answer) (f : BranchAt s p t c d at q true o) where
+  pub branches-first : (n place : ℕ) → o ≡ Refused n place → BranchesAt s p t c d at q o
+  unfolding BranchAt BranchesAt
+  branches-first n place g around known C x y mid end below st h fit h′ fit′ =
+      or-stopped _ _ mid end (reachedBy o) (f around known C x mid below st h fit) n place (ap reachedBy g)
+
+  pub branches-second : (m : ℕ) (r : Answer) → o ≡ At m → BranchAt s p t c d m q false r → BranchesAt s p t c d at q r
+  unfolding BranchAt BranchesAt
+  branches-second m r g w around known C x y mid end below st h fit h′ fit′ =
+      let v = f around known C x mid below st h fit in
+      let k : m ≡ mid = reached-is _ (flow s p around known C y) mid end (reachedBy o) v m (ap reachedBy g) in
+      w around known C y end below st (rw k h′) fit′ ∙ rw (or-reached _ (flow s p around known C y) mid end (reachedBy o) v m (ap reachedBy g))
 
 pub ruleset branches = (branches-first, branches-second)
 
+branches-same : (s p t : List ℕ) (c : Context) (d at : ℕ) (r : Answer) {q q′ : ModelQuery} → q ≡ q′ → BranchesAt s p t c d at q r → BranchesAt s p t c d at q′ r
+branches-same s p t c d at r e h = rw (← e) h
+
+-- a query's two atoms and its branches
+module _ (s p t : List ℕ) (c : Context) (d at n : ℕ) (o : QueryOf) (i : n ≡ ahead p at 1) (f : QueryAt p n o) where
+  asked-is : (q : ModelQuery) → readQuery p (roles s) (at + 1) ≡ got q (at + 3) → (at + 3 ≤ length p) × QueryNames o q
+  unfolding QueryAt
+  asked-is q h =
+      let u = query-parts p (roles s) (at + 1) h in
+      let ne : n ≡ at + 1 = i ∙ ahead-is p at 1 (omega (arith, u .inside)) in
+      (omega (arith, u .inside), f (roles s) q (at + 3) (rw ne h))
+
+  pub asked-none : (r : Answer) → o ≡ query.No → AskedAt s p t c d at r
+  unfolding AskedAt
+  asked-none r g around known C q x y mid end h below st a fa b fb = query-not o q (asked-is q h .1) g
+
+  pub asked-branches : (a b : CodeAtom) (named start : ℕ) (k : Context) (r : Answer) → o ≡ query.Is a b → named ≡ queryRoles (queryOf a b) → k ≡ withNamed c named → start ≡ ahead p at 3 → BranchesAt s p t k d start (queryOf a b) r → AskedAt s p t c d at r
+  unfolding AskedAt BranchesAt
+  asked-branches a b named start k r eo en ek es w around known C q x y mid end h below st l fl l′ fl′ =
+      let u = asked-is q h in
+      let qe : queryOf a b ≡ q = query-is o q a b (u .1) eo in
+      let kc : k ≡ withNamed c (queryRoles q) = ek ∙ ap (withNamed c) (en ∙ ap queryRoles qe) in
+      let cq : ContextIs (roles s) k (λ side. queryLabel side q ++ C side) = rw kc (context-query (roles s) c C (st .context) (roles-few st) q below) in
+      let se : start ≡ at + 3 = es ∙ ahead-is p at 3 (u .0) in
+      branches-same s p t k d start r qe w around known (λ side. queryLabel side q ++ C side) x y mid end
+      below (stands-context st (ap (λ (c : Context). c .around) kc) cq) (rw se l) fl l′ fl′
+
+pub ruleset askeds = (asked-none, asked-branches)
+
 -- a statement, by its code
-module _ (s p t : List ℕ) (z : Sizes) (a : Around) (c : Context) (d at : ℕ) where
+module _ (s p t : List ℕ) (c : Context) (d at : ℕ) where
   -- a block: what is left of it decides
-  pub record Blocked (around : Surroundings) (known : List Query) (C : Side → List Atom) (left next : ℕ) (x : Stmt) (end : ℕ) : Type 0 where
+  pub record Blocked (around : Surroundings) (known : List ModelQuery) (C : Side → List Atom) (left next : ℕ) (x : Stmt) (end : ℕ) : Type 0 where
     pub rest : List Stmt
-    pub rest-read : readMany (readStmt p (z .principals) (z .roles) (z .vars) (d - 1)) left next ≡ got rest end
-    pub rest-fits : StmtFits z (blockOf rest)
+    pub rest-read : readMany (readStmt p (principals s) (roles s) (variables p) (d - 1)) left next ≡ got rest end
+    pub rest-fits : StmtFits s p (blockOf rest)
     pub same : flow s p around known C x ≡ flow s p around known C (blockOf rest)
 
   unfoldable pub Blocking : ℕ → ℕ → Type 0
   Blocking left next =
-      (around : Surroundings) (known : List Query) (C : Side → List Atom) (x : Stmt) (end : ℕ) → byte p at ≡ 2
-      → Stands s p t z a c around known C → StmtAt p z d at x end → StmtFits z x → Blocked around known C left next x end
+      (around : Surroundings) (known : List ModelQuery) (C : Side → List Atom) (x : Stmt) (end : ℕ) → byte p at ≡ 2
+      → Stands s p t c around known C → StmtAt s p d at x end → StmtFits s p x → Blocked around known C left next x end
 
   pub block-start : (q left next : ℕ) → q ≡ ahead p at 1 → left ≡ byte p q → next ≡ ahead p at 2 → Blocking left next
   unfolding Blocking
   block-start q left next e₁ e₂ e₃ around known C x end code st h fit =
-      let u = block-parts p (z .principals) (z .roles) (z .vars) d at h code in
+      let u = block-parts p (principals s) (roles s) (variables p) d at h code in
       let le : left ≡ byte p (at + 1) = e₂ ∙ ap (byte p) (e₁ ∙ ahead-is p at 1 (omega (arith, u .inside))) in
       let ne : next ≡ at + 2 = e₃ ∙ ahead-is p at 2 (u .inside) in
       record { rest = u .parts; rest-read = rw (le, ne) (u .parts-read); rest-fits = rw (u .is) at fit; same = ap (flow s p around known C) (u .is) }
 
   module _ (left next : ℕ) (inv : Blocking left next) where
-    pub block-done : left ≤ 0 → CodedAt 2 s p t z a c d at (Next next)
-    unfolding Blocking CodedAt CheckedAt checkedOf blockOf flow
+    pub block-done : left ≤ 0 → CodedAt Block s p t c d at (At next)
+    unfolding Blocking CodedAt CheckedAt checkedTo blockOf flow
     block-done none code around known C x end st h fit =
         let u = inv around known C x end code st h fit in
         let v = many-none _ left next (u .rest-read) none in
         rw (u .same, v .0, v .1)
 
-    module _ (some : 0 < left) (o : Checked) (f : CheckedAt s p t z a c (d - 1) next o) where
-      pub block-refused : (k place : ℕ) → o ≡ Refused k place → CodedAt 2 s p t z a c d at o
+    module _ (some : 0 < left) (o : Answer) (f : CheckedAt s p t c (d - 1) next o) where
+      pub block-refused : (k place : ℕ) → o ≡ Refused k place → CodedAt Block s p t c d at o
       unfolding Blocking CodedAt CheckedAt blockOf flow
       block-refused k place e code around known C x end st h fit =
           let u = inv around known C x end code st h fit in
           let v = many-more _ left next (u .rest-read) some in
           let w = rw (v .is) at (u .rest-fits) in
-          rw (u .same, v .is) (or-refused _ _ (v .mid) end o (f around known C (v .head) (v .mid) st (v .head-read) (w .0)) k place e)
+          rw (u .same, v .is) (or-stopped _ _ (v .mid) end (reachedBy o) (f around known C (v .head) (v .mid) st (v .head-read) (w .0)) k place (ap reachedBy e))
 
-      pub block-more : (m : ℕ) → o ≡ Next m → Blocking (left - 1) m
+      pub block-more : (m : ℕ) → o ≡ At m → Blocking (left - 1) m
       unfolding Blocking CheckedAt blockOf flow
       block-more m e around known C x end code st h fit =
           let u = inv around known C x end code st h fit in
           let v = many-more _ left next (u .rest-read) some in
           let w = rw (v .is) at (u .rest-fits) in
           let g = f around known C (v .head) (v .mid) st (v .head-read) (w .0) in
-          let k : m ≡ v .mid = next-is _ fine (v .mid) end o g m e in
+          let k : m ≡ v .mid = reached-is _ fine (v .mid) end (reachedBy o) g m (ap reachedBy e) in
           record {
             rest = v .tail;
             rest-read = rw k (v .tail-read);
             rest-fits = w .1;
-            same = u .same ∙ ap (λ (ys : List Stmt). flow s p around known C (blockOf ys)) (v .is) ∙ or-next _ (flow s p around known C (blockOf (v .tail))) (v .mid) end o g m e;
+            same = u .same ∙ ap (λ (ys : List Stmt). flow s p around known C (blockOf ys)) (v .is) ∙ or-reached _ (flow s p around known C (blockOf (v .tail))) (v .mid) end (reachedBy o) g m (ap reachedBy e);
           }
 
   -- an if, a while
-  module _ (q : ℕ) (l : Labels) (k : Context) (r : Checked) (e : q ≡ ahead p at 1) (f : LabelsAt p (z .vars) 16 q l) (g : k ≡ withLabels c l) where
-    pub if-checked : PairAt s p t z a k (d - 1) (l .next) r → CodedAt 3 s p t z a c d at r
+  module _ (q : ℕ) (l : Labels) (k : Context) (r : Answer) (e : q ≡ ahead p at 1) (f : LabelsAt p 16 q l) (g : k ≡ withLabels c l) where
+    pub if-checked : PairAt s p t k (d - 1) (l .next) r → CodedAt If s p t c d at r
     unfolding CodedAt CheckedAt PairAt flow
     if-checked h code around known C x end st i fit =
-        let u = if-parts p (z .principals) (z .roles) (z .vars) d at i code in
-        let qe : q ≡ at + 1 = e ∙ ahead-is p at 1 (omega (arith, stmt-there p (z .principals) (z .roles) (z .vars) d at i)) in
+        let u = if-parts p (principals s) (roles s) (variables p) d at i code in
+        let qe : q ≡ at + 1 = e ∙ ahead-is p at 1 (omega (arith, stmt-there p (principals s) (roles s) (variables p) d at i)) in
         let le : l ≡ exprLabels p (u .test) (u .start) = labels-are st q l (u .test) (u .start) f (rw qe (u .test-read)) in
         let w = rw (u .is) at fit in
         rw (u .is)
         (h around known (λ side. exprLabel p side (u .test) ++ C side) (u .left) (u .right) (u .mid) end
         (under-expr st l k (u .test) (u .start) le g (w .0)) (rw le (u .left-read)) (w .1) (u .right-read) (w .2))
 
-    pub while-checked : CheckedAt s p t z a k (d - 1) (l .next) r → CodedAt 4 s p t z a c d at r
+    pub while-checked : CheckedAt s p t k (d - 1) (l .next) r → CodedAt While s p t c d at r
     unfolding CodedAt CheckedAt flow
     while-checked h code around known C x end st i fit =
-        let u = while-parts p (z .principals) (z .roles) (z .vars) d at i code in
-        let qe : q ≡ at + 1 = e ∙ ahead-is p at 1 (omega (arith, stmt-there p (z .principals) (z .roles) (z .vars) d at i)) in
+        let u = while-parts p (principals s) (roles s) (variables p) d at i code in
+        let qe : q ≡ at + 1 = e ∙ ahead-is p at 1 (omega (arith, stmt-there p (principals s) (roles s) (variables p) d at i)) in
         let le : l ≡ exprLabels p (u .test) (u .start) = labels-are st q l (u .test) (u .start) f (rw qe (u .test-read)) in
         let w = rw (u .is) at fit in
         rw (u .is)
@@ -399,96 +444,92 @@ module _ (s p t : List ℕ) (z : Sizes) (a : Around) (c : Context) (d at : ℕ) 
         (under-expr st l k (u .test) (u .start) le g (w .0)) (rw le (u .body-read)) (w .1))
 
   -- a query
-  pub query-outside : a .inside ≡ false → CodedAt 5 s p t z a c d at (Refused 15 at)
-  unfolding CodedAt CheckedAt flow checkedOf
+  pub query-outside : c .around .inside ≡ false → CodedAt Query s p t c d at (Refused 15 at)
+  unfolding CodedAt CheckedAt flow checkedTo
   query-outside e code around known C x end st h fit =
-      let u = branch-parts p (z .principals) (z .roles) (z .vars) d at h code in
-      let w = without p (z .roles) (z .vars) a known around (st .surrounded) e in
-      rw (u .is, w .0)
+      let u = branch-parts p (principals s) (roles s) (variables p) d at h code in
+      rw (u .is, within-none p (roles s) (variables p) (c .around) around (st .surrounded) e)
 
-  module _ (e : a .inside ≡ true) (q₁ b q₂ y : ℕ) (l : Bool) (i₁ : q₁ ≡ ahead p at 1) (j₁ : b ≡ byte p q₁) (i₂ : q₂ ≡ ahead p at 2) (j₂ : y ≡ byte p q₂) (f : ListedAt p (a .count) (a .list) b y l) where
-    pub query-unlisted : l ≡ false → CodedAt 5 s p t z a c d at (Refused 15 at)
-    unfolding CodedAt CheckedAt ListedAt flow checkedOf
-    query-unlisted g code around known C x end st h fit =
-        let u = branch-parts p (z .principals) (z .roles) (z .vars) d at h code in
-        let w = within p (z .roles) (z .vars) a known around (st .surrounded) e in
-        let be : b ≡ byte p (at + 1) = j₁ ∙ ap (byte p) (i₁ ∙ ahead-is p at 1 (omega (arith, u .asked-parts .inside))) in
-        let ye : y ≡ byte p (at + 1 + 1) = j₂ ∙ ap (byte p) (i₂ ∙ ahead-is p at 2 (omega (arith, u .asked-parts .inside)) ∙ omega arith) in
-        let v = f (z .roles) (w .listed) (w .parts .end) (u .asked) (w .parts .listed-read) (u .asked-parts .first-byte ∙ sym be) (u .asked-parts .second-byte ∙ sym ye) in
-        rw (u .is, w .is, sym v ∙ g)
+  module _ (e : c .around .inside ≡ true) (m : ℕ) (l : Bool) (w : m ≡ ahead p at 1) (listed : ListedAt p (c .around .count) (c .around .list) m l) where
+    listed-is : (asked : ModelQuery) (qs : List ModelQuery) (end after : ℕ) → at + 1 + 2 ≤ length p → readMany (readQuery p (roles s)) (c .around .count) (c .around .list) ≡ got qs end → readQuery p (roles s) (at + 1) ≡ got asked after → l ≡ listedIn asked qs
+    unfolding ListedAt
+    listed-is asked qs end after room h k =
+        let me : m ≡ at + 1 = w ∙ ahead-is p at 1 (omega arith) in
+        listed (roles s) qs asked end after h (rw me k)
 
-    pub query-listed : (n m : ℕ) (k : Context) (r : Checked) → l ≡ true → NamedRoles b y n → k ≡ withNamed c n → m ≡ ahead p at 3 → BranchesAt s p t z a k (d - 1) m b y r → CodedAt 5 s p t z a c d at r
-    unfolding CodedAt CheckedAt ListedAt NamedRoles BranchesAt flow
-    query-listed n m k r g ne ke me h code around known C x end st i fit =
-        let u = branch-parts p (z .principals) (z .roles) (z .vars) d at i code in
-        let w = within p (z .roles) (z .vars) a known around (st .surrounded) e in
-        let be : b ≡ byte p (at + 1) = j₁ ∙ ap (byte p) (i₁ ∙ ahead-is p at 1 (omega (arith, u .asked-parts .inside))) in
-        let ye : y ≡ byte p (at + 1 + 1) = j₂ ∙ ap (byte p) (i₂ ∙ ahead-is p at 2 (omega (arith, u .asked-parts .inside)) ∙ omega arith) in
-        let fb = u .asked-parts .first-byte ∙ sym be in
-        let sb = u .asked-parts .second-byte ∙ sym ye in
-        let v = f (z .roles) (w .listed) (w .parts .end) (u .asked) (w .parts .listed-read) fb sb in
+    pub query-unlisted : l ≡ false → CodedAt Query s p t c d at (Refused 15 at)
+    unfolding CodedAt CheckedAt flow checkedTo
+    query-unlisted k code around known C x end st h fit =
+        let u = branch-parts p (principals s) (roles s) (variables p) d at h code in
+        let v = within-one p (roles s) (variables p) (c .around) around (st .surrounded) e in
+        let b = listed-is (u .asked) (v .listed) (v .parts .end) (at + 3) (u .asked-parts .inside) (v .parts .listed-read) (u .asked-read) in
+        rw (u .is, v .is, sym b ∙ k)
+
+    pub query-listed : (r : Answer) → l ≡ true → AskedAt s p t c (d - 1) at r → CodedAt Query s p t c d at r
+    unfolding CodedAt CheckedAt AskedAt flow
+    query-listed r k f code around known C x end st h fit =
+        let u = branch-parts p (principals s) (roles s) (variables p) d at h code in
+        let v = within-one p (roles s) (variables p) (c .around) around (st .surrounded) e in
+        let b = listed-is (u .asked) (v .listed) (v .parts .end) (at + 3) (u .asked-parts .inside) (v .parts .listed-read) (u .asked-read) in
         let fits = rw (u .is) at fit in
-        let below = query-fits (z .roles) (z .roles) (omega arith) (u .asked) (fits .0) in
-        let kc : k ≡ withNamed c (queryRoles (u .asked)) = ke ∙ ap (withNamed c) (ne (u .asked) fb sb (query-fits (z .roles) 64 (roles-few st) (u .asked) (fits .0))) in
-        let cq : ContextIs (roles s) k (λ side. queryLabel side (u .asked) ++ C side) = rw kc (context-query (roles s) c C (st .context) (u .asked) (rw (st .roles-are) below)) in
-        let st′ = stands-context st cq in
-        let mm : m ≡ at + 3 = me ∙ ahead-is p at 3 (omega (arith, u .asked-parts .inside)) in
-        rw (u .is, w .is, sym v ∙ g)
-        (h (w .listed) (w .xs) (w .rs) known (λ side. queryLabel side (u .asked) ++ C side) (u .asked) (u .left) (u .right) (u .mid) end
-        fb sb below (rw (w .is) at st′) (rw mm (u .left-read)) (fits .1) (u .right-read) (fits .2))
+        rw (u .is, v .is, sym b ∙ k)
+        (rw (v .is) at (f around known C (u .asked) (u .left) (u .right) (u .mid) end (u .asked-read) (fits .0) st (u .left-read) (fits .1) (u .right-read) (fits .2)))
 
   -- a transaction
-  pub transaction-nested : a .inside ≡ true → CodedAt 7 s p t z a c d at (Refused 15 at)
-  unfolding CodedAt CheckedAt flow checkedOf
+  pub transaction-nested : c .around .inside ≡ true → CodedAt Transaction s p t c d at (Refused 15 at)
+  unfolding CodedAt CheckedAt flow checkedTo
   transaction-nested e code around known C x end st h fit =
-      let u = transaction-parts p (z .principals) (z .roles) (z .vars) d at h code in
-      let w = within p (z .roles) (z .vars) a known around (st .surrounded) e in
+      let u = transaction-parts p (principals s) (roles s) (variables p) d at h code in
+      let w = within-one p (roles s) (variables p) (c .around) around (st .surrounded) e in
       rw (u .is, w .is)
 
-  pub transaction-body : (m : ℕ) (b : Around) (r : Checked) → a .inside ≡ false → m ≡ afterList p at 2 → EnteredAt p z (d - 1) at b → CheckedAt s p t z b c (d - 1) m r → CodedAt 7 s p t z a c d at r
+  pub transaction-body : (m : ℕ) (b : Around) (k : Context) (r : Answer) → c .around .inside ≡ false → m ≡ afterList p at 2 → EnteredAt p (d - 1) at b → k ≡ within c b → CheckedAt s p t k (d - 1) m r → CodedAt Transaction s p t c d at r
   unfolding CodedAt CheckedAt EnteredAt flow
-  transaction-body m b r e me f g code around known C x end st h fit =
-      let u = transaction-parts p (z .principals) (z .roles) (z .vars) d at h code in
-      let w = without p (z .roles) (z .vars) a known around (st .surrounded) e in
+  transaction-body m b k r e me f ke g code around known C x end st h fit =
+      let u = transaction-parts p (principals s) (roles s) (variables p) d at h code in
+      let w = within-none p (roles s) (variables p) (c .around) around (st .surrounded) e in
       let fits = rw (u .is) at fit in
-      let v = f (u .listed) (u .body) end (roles-few st) (st .few) (u .inside) (u .listed-read) (fits .0) (u .body-read) (fits .1) in
+      let v = f (principals s) (roles s) (variables p) (u .listed) (u .body) end (roles-few st) (st .few) (u .inside) (u .listed-read) (fits .0) (u .body-read) (fits .1) in
       let mm : m ≡ bodyStart p at = me ∙ list-is p at 2 (u .inside) in
-      rw (u .is, w .0)
-      (g (inside (u .listed) (assigned (u .body)) (mutated (u .body))) [] C (u .body) end (record {
+      rw (u .is, w)
+      (g (inside (u .listed) (assigned (u .body)) (mutated (u .body))) known C (u .body) end (record {
         is-accepted = st .is-accepted;
-        principals-are = st .principals-are;
-        roles-are = st .roles-are;
         few = st .few;
         labels = st .labels;
-        knows = rw (w .1) at (st .knows);
-        surrounded = v;
-        context = st .context;
+        knows = st .knows;
+        surrounded = rw ke v;
+        context = rw ke (context-around (roles s) c C b (st .context));
       }) (rw mm (u .body-read)) (fits .1))
 
   -- any statement
-  pub stmt-none : (r : Checked) → d ≡ 0 → CheckedAt s p t z a c d at r
+  pub stmt-none : (r : Answer) → d ≡ 0 → CheckedAt s p t c d at r
   unfolding CheckedAt
-  stmt-none r e around known C x end st h fit = absurd (stmt-deep p (z .principals) (z .roles) (z .vars) d at h e)
+  stmt-none r e around known C x end st h fit = absurd (stmt-deep p (principals s) (roles s) (variables p) d at h e)
 
-  module _ (k : ℕ) (i : k ≡ byte p at) where
-    pub stmt-skip : (q : ℕ) → (k ≡ 1 → ⊥) → (k ≡ 2 → ⊥) → (k ≡ 3 → ⊥) → (k ≡ 4 → ⊥) → (k ≡ 5 → ⊥) → (k ≡ 6 → ⊥) → (k ≡ 7 → ⊥) → q ≡ ahead p at 1 → CheckedAt s p t z a c d at (Next q)
-    unfolding CheckedAt flow checkedOf
-    stmt-skip q n₁ n₂ n₃ n₄ n₅ n₆ n₇ e around known C x end st h fit =
-        let u = other-parts p (z .principals) (z .roles) (z .vars) d at h k i n₁ n₂ n₃ n₄ n₅ n₆ n₇ in
-        rw (u .0, u .1, e, ahead-is p at 1 (omega (arith, stmt-there p (z .principals) (z .roles) (z .vars) d at h)))
+  module _ (o : StatementOf) (i : o ≡ statementOf (byte p at)) where
+    pub stmt-unknown : (r : Answer) → o ≡ statement.No → CheckedAt s p t c d at r
+    unfolding CheckedAt
+    stmt-unknown r k around known C x end st h fit = absurd (omega (arith, statement-none (byte p at) o i k, stmt-known p (principals s) (roles s) (variables p) d at h))
 
-    module _ (r : Checked) where
-      pub stmt-assign : k ≡ 1 → AssignAt p t z c at r → CheckedAt s p t z a c d at r
-      unfolding AssignAt CodedAt
-      stmt-assign e f = f s a d (sym i ∙ e)
+    module _ (code : Statement) (j : o ≡ statement.Is code) where
+      pub stmt-skip : (q : ℕ) → code ≡ Skip → q ≡ ahead p at 1 → CheckedAt s p t c d at (At q)
+      unfolding CheckedAt flow checkedTo
+      stmt-skip q k e around known C x end st h fit =
+          let u = skip-parts p (principals s) (roles s) (variables p) d at h (statement-byte (byte p at) o i code j ∙ ap statementByte k) in
+          rw (u .0, u .1, e, ahead-is p at 1 (omega (arith, stmt-there p (principals s) (roles s) (variables p) d at h)))
 
-      pub stmt-update : k ≡ 6 → UpdateAt s p t a c at r → CheckedAt s p t z a c d at r
-      unfolding UpdateAt CodedAt
-      stmt-update e f = f z d (sym i ∙ e)
+      module _ (r : Answer) where
+        pub stmt-assign : code ≡ Assign → AssignAt p t c at r → CheckedAt s p t c d at r
+        unfolding AssignAt
+        stmt-assign k f = f s d (statement-byte (byte p at) o i code j ∙ ap statementByte k)
 
-      pub stmt-coded : (code : ℕ) → k ≡ code → CodedAt code s p t z a c d at r → CheckedAt s p t z a c d at r
-      unfolding CodedAt
-      stmt-coded code e f = f (sym i ∙ e)
+        pub stmt-update : code ≡ Update → UpdateAt s p t c at r → CheckedAt s p t c d at r
+        unfolding UpdateAt
+        stmt-update k f = f d (statement-byte (byte p at) o i code j ∙ ap statementByte k)
+
+        pub stmt-coded : (one : Statement) → code ≡ one → CodedAt one s p t c d at r → CheckedAt s p t c d at r
+        unfolding CodedAt
+        stmt-coded one k f = f (statement-byte (byte p at) o i code j ∙ ap statementByte k)
 
 pub ruleset blocks = (block-start, block-done, block-refused, block-more)
 
@@ -496,4 +537,4 @@ pub ruleset queries = (query-outside, query-unlisted, query-listed)
 
 pub ruleset transactions = (transaction-nested, transaction-body)
 
-pub ruleset statements = (stmt-none, stmt-skip, stmt-assign, stmt-update, stmt-coded)
+pub ruleset statements = (stmt-none, stmt-unknown, stmt-skip, stmt-assign, stmt-update, stmt-coded)

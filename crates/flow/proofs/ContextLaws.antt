@@ -1,42 +1,41 @@
 -- What the code joins to a context's words is what the rules join to the context: an expression's label, the labels of queries.
 use mathlib.Core.Path.{_≡_, refl, sym}
-use Prim.Native.Nat.{ℕ, _^_, _<_}
-use mathlib.Core.List.{List, [], _∷_, _++_, List·Memᴰ}
+use Prim.Native.Nat.{ℕ, _^_, _<_, _≤_}
+use mathlib.Core.List.{List, [], _∷_, _++_}
 use mathlib.Core.Bool.{Bool, true, false, cond}
-use lib.Bits.{or-zero-l, or-zero-r, or-comm}
+use lib.Bits.{or-comm}
 use lib.Dec.{eqb}
 use borrow.Author.Tests.{eqb-true, eqb-false}
 use Rattle.model.specs.Policy.{Side, reading, trust}
 use Rattle.model.specs.Syntax.{everyone, Atom, role, fixed, atomByte, Query, Expr, constant, variable, binary}
 use Rattle.model.specs.Flow.{labelAtom, label, exprLabel, queryLabel, listLabel}
-use Rattle.model.proofs.Fits.{ExprFits}
-use Rattle.order.specs.Table.{AtomBelow, QueryBelow, Joins, JoinBelow, queryRoles, listRoles}
+use Rattle.model.specs.Fits.{Each, AtomFits, QueryFits, ExprFits}
+use Rattle.order.specs.Table.{Joins, JoinBelow, queryRoles, listRoles}
 use Rattle.order.proofs.Joins.{joins-none, joins-append, joins-role, joins-everyone, joins-query, joins-list, below-none, below-append, below-one, below-query, below-list}
-use Rattle.walk.specs.Words.{labelByte, labelRole, exprRoles}
-use Rattle.walk.specs.Labels.{LabelsBelow, exprLabels}
+use Rattle.model.specs.Program.{labelByte}
+use Rattle.gathered.specs.Words.{labelRole, exprRoles}
+use Rattle.gathered.specs.declared.labels.Labels.{Labels}
+use Rattle.gathered.specs.Labels.{LabelsBelow, exprLabels}
+use Rattle.flow.specs.declared.context.Around.{Around}
+use Rattle.flow.specs.declared.context.Join.{Join}
 use Rattle.flow.specs.declared.context.Context.{Context}
-use Rattle.flow.specs.Context.{ContextIs, noContext, withLabels, withNamed}
+use Rattle.flow.specs.Context.{ContextIs, noTransaction, noLabels, joinWith, noContext, withLabels, withNamed, within, joinOf}
 
 -- a label's byte is that of its atom
-pub label-atom : (p : List ℕ) (side : Side) (x : ℕ) → label p side x ≡ labelAtom (labelByte p side x)
-unfolding label
-label-atom p reading x = refl
-label-atom p trust x = refl
-
 module _ (b : ℕ) where
-  pub atom-byte : atomByte (labelAtom b) ≡ b
+  pub label-byte : atomByte (labelAtom b) ≡ b
   unfolding labelAtom
-  atom-byte = go (eqb b 0xff) refl
+  label-byte = go (eqb b 0xff) refl
     where
       go : (t : Bool) → eqb b 0xff ≡ t → atomByte (cond t (fixed everyone) (role b)) ≡ b
       go true e = sym (eqb-true b 0xff e)
       go false e = refl
 
-  pub atom-below : (R : ℕ) → ((b ≡ 0xff → ⊥) → b < R) → AtomBelow R (labelAtom b)
+  pub atom-below : (R : ℕ) → ((b ≡ 0xff → ⊥) → b < R) → AtomFits R (labelAtom b)
   unfolding labelAtom
   atom-below R f = go (eqb b 0xff) refl
     where
-      go : (t : Bool) → eqb b 0xff ≡ t → AtomBelow R (cond t (fixed everyone) (role b))
+      go : (t : Bool) → eqb b 0xff ≡ t → AtomFits R (cond t (fixed everyone) (role b))
       go true e = tt
       go false e = f (eqb-false b 0xff e)
 
@@ -49,15 +48,15 @@ module _ (b : ℕ) where
       go false = joins-role side b
 
 module _ (R : ℕ) (p : List ℕ) (vars : ℕ) (labels : LabelsBelow R p vars) (side : Side) where
-  pub label-below : (x : ℕ) → x < vars → AtomBelow R (label p side x)
-  unfolding LabelsBelow
-  label-below x l = rw (label-atom p side x) (atom-below (labelByte p side x) R (labels side x l))
+  pub label-below : (x : ℕ) → x < vars → AtomFits R (label p side x)
+  unfolding LabelsBelow label
+  label-below x l = atom-below (labelByte p side x) R (labels side x l)
 
   -- an expression's label
   pub joins-expr : (e : Expr) → Joins side (exprLabel p side e) (exprRoles p side e) 0
-  unfolding exprLabel exprRoles
+  unfolding exprLabel exprRoles label
   joins-expr (constant n) = joins-none side
-  joins-expr (variable x) = rw (label-atom p side x) (joins-label (labelByte p side x) side)
+  joins-expr (variable x) = joins-label (labelByte p side x) side
   joins-expr (binary op a b) = joins-append side (joins-expr a) (joins-expr b)
 
   pub below-expr : (e : Expr) → ExprFits vars e → JoinBelow R (exprLabel p side e)
@@ -67,26 +66,60 @@ module _ (R : ℕ) (p : List ℕ) (vars : ℕ) (labels : LabelsBelow R p vars) (
   below-expr (binary op a b) f = below-append R (below-expr a (f .0)) (below-expr b (f .1))
 
 pub context-none : (n : ℕ) → ContextIs n noContext (λ side. [])
-context-none n = record { reading-join = joins-none reading; trust-join = joins-none trust; below = λ side. below-none n }
+context-none n = record { joined = go; below = λ side. below-none n }
+  where
+    go : (side : Side) → Joins side [] (joinOf side noContext .roles) (joinOf side noContext .watchers)
+    go reading = joins-none reading
+    go trust = joins-none trust
+
+-- only the transaction around differs
+pub context-around : (n : ℕ) (c : Context) (C : Side → List Atom) (a : Around) → ContextIs n c C → ContextIs n (within c a) C
+context-around n c C a is = record { joined = go; below = is .below }
+  where
+    go : (side : Side) → Joins side (C side) (joinOf side (within c a) .roles) (joinOf side (within c a) .watchers)
+    go reading = is .joined reading
+    go trust = is .joined trust
 
 module _ (n : ℕ) (c : Context) (C : Side → List Atom) (is : ContextIs n c C) where
   pub context-expr : (p : List ℕ) (vars : ℕ) (e : Expr) (end : ℕ) → LabelsBelow n p vars → ExprFits vars e → ContextIs n (withLabels c (exprLabels p e end)) (λ side. exprLabel p side e ++ C side)
-  context-expr p vars e end l f = record {
-    reading-join = rw (or-comm (c .reading) (exprRoles p reading e), ← or-zero-l (c .viewers)) (joins-append reading (joins-expr n p vars l reading e) (is .reading-join));
-    trust-join = rw (or-comm (c .trust) (exprRoles p trust e), ← or-zero-l (c .trusters)) (joins-append trust (joins-expr n p vars l trust e) (is .trust-join));
-    below = λ side. below-append n (below-expr n p vars l side e f) (is .below side);
-  }
+  context-expr p vars e end l f = record { joined = go; below = λ side. below-append n (below-expr n p vars l side e f) (is .below side) }
+    where
+      go : (side : Side) → Joins side (exprLabel p side e ++ C side) (joinOf side (withLabels c (exprLabels p e end)) .roles) (joinOf side (withLabels c (exprLabels p e end)) .watchers)
+      go reading = joins-append reading (joins-expr n p vars l reading e) (is .joined reading)
+      go trust = joins-append trust (joins-expr n p vars l trust e) (is .joined trust)
 
-  pub context-query : (q : Query) → QueryBelow n q → ContextIs n (withNamed c (queryRoles q)) (λ side. queryLabel side q ++ C side)
-  context-query q f = record {
-    reading-join = rw (or-comm (c .viewers) (queryRoles q), ← or-zero-l (c .reading)) (joins-append reading (joins-query reading q) (is .reading-join));
-    trust-join = rw (or-comm (c .trusters) (queryRoles q), ← or-zero-l (c .trust)) (joins-append trust (joins-query trust q) (is .trust-join));
-    below = λ side. below-append n (below-query n side q f) (is .below side);
-  }
+  -- the watchers of named roles before the context, as for a query, and after it, as for the listed queries
+  named-first : (join : Side → List Atom) (named : ℕ) → ((side : Side) → Joins side (join side) 0 named) → (side : Side)
+      → Joins side (join side ++ C side) (joinOf side (withNamed c named) .roles) (joinOf side (withNamed c named) .watchers)
+  named-first join named f reading = joins-append reading (f reading) (is .joined reading)
+  named-first join named f trust = joins-append trust (f trust) (is .joined trust)
 
-  pub context-list : (qs : List Query) → ((q : Query) → List·Memᴰ q qs → QueryBelow n q) → ContextIs n (withNamed c (listRoles qs)) (λ side. C side ++ listLabel side qs)
-  context-list qs f = record {
-    reading-join = rw (← or-zero-r (c .reading)) (joins-append reading (is .reading-join) (joins-list reading qs));
-    trust-join = rw (← or-zero-r (c .trust)) (joins-append trust (is .trust-join) (joins-list trust qs));
-    below = λ side. below-append n (is .below side) (below-list n side qs f);
-  }
+  named-last : (join : Side → List Atom) (named : ℕ) → ((side : Side) → Joins side (join side) 0 named) → (side : Side)
+      → Joins side (C side ++ join side) (joinOf side (withNamed c named) .roles) (joinOf side (withNamed c named) .watchers)
+  named-last join named f reading = rw (or-comm 0 (c .reading .roles), or-comm named (c .reading .watchers)) (joins-append reading (is .joined reading) (f reading))
+  named-last join named f trust = rw (or-comm 0 (c .trust .roles), or-comm named (c .trust .watchers)) (joins-append trust (is .joined trust) (f trust))
+
+  module _ (few : n ≤ 64) where
+    pub context-query : (q : Query) → QueryFits n q → ContextIs n (withNamed c (queryRoles q)) (λ side. queryLabel side q ++ C side)
+    context-query q f = record {
+      joined = named-first (λ side. queryLabel side q) (queryRoles q) (λ side. joins-query side n few q f);
+      below = λ side. below-append n (below-query n side q f) (is .below side);
+    }
+
+    pub context-list : (qs : List Query) → Each (QueryFits n) qs → ContextIs n (withNamed c (listRoles qs)) (λ side. C side ++ listLabel side qs)
+    context-list qs f = record {
+      joined = named-last (λ side. listLabel side qs) (listRoles qs) (λ side. joins-list side n few qs f);
+      below = λ side. below-append n (is .below side) (below-list n side qs f);
+    }
+
+-- the words of each function of context.rt
+pub start-is : (a : Around) (j k : Join) → a ≡ noTransaction → j ≡ noLabels → k ≡ noLabels → _≡_ {A = Context} (record { around = a; reading = j; trust = k }) noContext
+start-is a j k e f g = rw (e, f, g)
+
+pub labels-are : (c : Context) (l : Labels) (j k : Join) → j ≡ joinWith (c .reading) (l .reading) 0 → k ≡ joinWith (c .trust) (l .trust) 0 → _≡_ {A = Context} (record { around = c .around; reading = j; trust = k }) (withLabels c l)
+labels-are c l j k e f = rw (e, f)
+
+pub named-are : (c : Context) (n : ℕ) (j k : Join) → j ≡ joinWith (c .reading) 0 n → k ≡ joinWith (c .trust) 0 n → _≡_ {A = Context} (record { around = c .around; reading = j; trust = k }) (withNamed c n)
+named-are c n j k e f = rw (e, f)
+
+pub ruleset words = (start-is, labels-are, named-are)

@@ -1,26 +1,38 @@
 -- A law for each return of judge.rt, and its loops: a number that passes its test may leave the set, one that does not decides.
 use mathlib.Core.Path.{_≡_, refl, sym, ap, _∙_}
-use Prim.Native.Nat.{ℕ, zero, suc, _+_, _*_, _^_, _<_, _≤_}
+use Prim.Native.Nat.{ℕ, zero, suc, _<_, _≤_}
 use native.Mathlib.Omega.{arith}
+use native.Mathlib.Nat.{lt-of-lt-of-le}
 use native.Mathlib.Decide.{decLt, ℕ-discrete}
 use mathlib.Core.List.{List}
 use mathlib.Core.Bool.{Bool, true, false, cond, _&&_}
 use lib.Pow.{pow-pos}
 use lib.Count.{trailingZeros}
+use Rattle.model.specs.Limits.{roleLimit}
 use Rattle.model.specs.Sets.{has, without}
-use Rattle.model.specs.Bytes.{byte}
 use Rattle.model.specs.Policy.{Side, reading, trust, roles}
-use Rattle.model.specs.Syntax.{of, Atom, fixed, Query, atomByte}
-use Rattle.model.specs.Order.{joinAtMost}
-use Rattle.model.specs.Flow.{label, eachIn}
-use Rattle.model.proofs.Sets.{has-zero, has-below, has-without, without-has}
+use Rattle.model.specs.Syntax.{of, Atom, fixed}
+use Rattle.model.specs.Program.{variables, labelByte}
+use Rattle.model.specs.Fits.{AtomFits}
+use Rattle.model.specs.Flow.{labelAtom, label, eachIn}
+use Rattle.model.proofs.Accepted.{accepted-facts}
+use Rattle.model.proofs.Sets.{has-zero, has-without, without-has}
 use Rattle.model.proofs.Truth.{same-truth}
 use Rattle.order.specs.Table.{sideOf, Decides}
-use Rattle.walk.specs.Labels.{LabelsBelow}
-use Rattle.walk.specs.Words.{labelByte}
+use Rattle.program.specs.declared.codes.Atom.{Atom as CodeAtom}
+use Rattle.program.specs.declared.codes.Atom.the-variants.{Viewers, Trusters}
+use Rattle.program.specs.declared.codes.AtomOf.{AtomOf}
+use Rattle.program.specs.declared.codes.AtomOf.the-variants as atom
+use Rattle.program.specs.Codes.{atomOf, modelAtom, codeAtom}
+use Rattle.program.proofs.CodeLaws.{model-code, byte-atom}
+use Rattle.gathered.specs.Labels.{LabelsBelow}
+use Rattle.flow.specs.declared.context.Join.{Join}
 use Rattle.flow.specs.declared.context.Context.{Context}
-use Rattle.flow.specs.Judge.{Lowest, watchersByte, sidesNumber, Asked, BelowSide, labelsAbove, watchersAbove, VariablesBelow, RolesBelow, MayWrite, WriteNumber, AssignNumber}
-use Rattle.flow.proofs.ContextLaws.{label-atom, atom-byte, label-below}
+use Rattle.flow.specs.declared.judge.Written.{Written}
+use Rattle.flow.specs.declared.judge.Written.the-variants.{Variable, Role}
+use Rattle.flow.specs.Context.{joinOf}
+use Rattle.flow.specs.Judge.{sidesNumber, targetOf, limitOf, Names, TargetAt, BelowAtom, OneBelow, allAbove, AllBelow, MayWrite, WriteNumber, AssignNumber}
+use Rattle.flow.proofs.ContextLaws.{label-byte, atom-below, label-below}
 
 and-false : (a b : Bool) → b ≡ false → a && b ≡ false
 and-false true b e = e
@@ -57,131 +69,125 @@ module _ (f : ℕ → Bool) (a : ℕ) where
         go (no m) i = let e : n ≡ x = omega arith in and-false (eachIn a f n) _ (rw (e, h, k))
 
 -- the lowest number leaves a set
-pub lowest-is : (a r : ℕ) → a < 2 ^ 64 → r ≡ trailingZeros 64 a → has a r ≡ true → Lowest a r
-lowest-is a r l e h = record { is = e; member = h; small = has-below 64 a r l h }
+pub fewer : (a j next : ℕ) → 0 < a → j ≡ trailingZeros 64 a → has a j ≡ true → next ≡ without a (trailingZeros 64 a) → next < a
+fewer a j next l e h f = rw (f, ← e, h) (omega (arith, pow-pos j))
 
-pub fewer : (a x next : ℕ) → 0 < a → Lowest a x → next ≡ without a (trailingZeros 64 a) → next < a
-fewer a x next l h f = rw (f, ← h .is, h .member) (omega (arith, pow-pos x))
+-- the join on a side
+module _ (c : Context) (b : Bool) where
+  pub join-trust : b ≡ true → c .trust ≡ joinOf (sideOf b) c
+  join-trust e = rw e
 
-pub ruleset bits = (lowest-is, fewer)
+  pub join-reading : b ≡ false → c .reading ≡ joinOf (sideOf b) c
+  join-reading e = rw e
+
+pub ruleset joins = (join-trust, join-reading)
+
+-- what a write is held to
+module _ (b : Bool) (x : ℕ) where
+  pub watchers-trust : b ≡ true → modelAtom (Trusters x) ≡ fixed (of (sideOf b) x)
+  watchers-trust e = rw e
+
+  pub watchers-reading : b ≡ false → modelAtom (Viewers x) ≡ fixed (of (sideOf b) x)
+  watchers-reading e = rw e
+
+pub ruleset watchers = (watchers-trust, watchers-reading)
+
+label-names : (n : ℕ) (o : AtomOf) → AtomFits 64 (labelAtom n) → o ≡ atomOf n → Names o (labelAtom n)
+label-names n o f e = record {
+  named = codeAtom (labelAtom n);
+  is = e ∙ ap atomOf (sym (label-byte n)) ∙ byte-atom (labelAtom n) f;
+  stands = model-code (labelAtom n);
+}
+
+module _ (p : List ℕ) (side : Side) (w : Written) (x : ℕ) where
+  pub target-variable : (y : ℕ) (o : AtomOf) → w ≡ Variable → y ≡ labelByte p side x → o ≡ atomOf y → TargetAt p side w x o
+  unfolding TargetAt LabelsBelow label
+  target-variable y o k e f s ok labels l =
+      rw k (label-names (labelByte p side x) o (atom-below (labelByte p side x) 64 (λ n. lt-of-lt-of-le (labels side x (rw k at l) n) (accepted-facts s ok .roles-fit))) (f ∙ ap atomOf e))
+
+  pub target-role : (a : CodeAtom) → w ≡ Role → modelAtom a ≡ fixed (of side x) → TargetAt p side w x (atom.Is a)
+  unfolding TargetAt
+  target-role a k e s ok labels l = rw k (record { named = a; is = refl; stands = e })
+
+pub ruleset targets = (target-variable, target-role)
 
 -- whether the context is at most an atom
-module _ (t : List ℕ) (c : Context) (y : ℕ) (r b : Bool) where
-  pub below-trust : b ≡ true → Decides t trust (c .trust) (c .trusters) y r → BelowSide t c (sideOf b) y r
-  unfolding Decides BelowSide
-  below-trust e f = rw e (λ s known C a asked g l. f s known (C trust) a (asked .is-accepted) (asked .knows) (asked .context .trust-join) (asked .context .below trust) g l)
+pub below-atom : (t : List ℕ) (c : Context) (side : Side) (b : Atom) (j : Join) (r : Bool) → j ≡ joinOf side c → Decides t side (j .roles) (j .watchers) b r → BelowAtom t c side b r
+unfolding Decides BelowAtom
+below-atom t c side b j r e f s p known C asked l = f s known (C side) (asked .is-accepted) (asked .knows) (rw e (asked .context .joined side)) (asked .context .below side) l
 
-  pub below-reading : b ≡ false → Decides t reading (c .reading) (c .viewers) y r → BelowSide t c (sideOf b) y r
-  unfolding Decides BelowSide
-  below-reading e f = rw e (λ s known C a asked g l. f s known (C reading) a (asked .is-accepted) (asked .knows) (asked .context .reading-join) (asked .context .below reading) g l)
+-- the atom that was read is the one that is named
+same-named : (o : AtomOf) (a : CodeAtom) (m : Atom) → Names o m → o ≡ atom.Is a → modelAtom a ≡ m
+same-named o a m u h = let k : a ≡ u .named = cc (u .is) in rw k (u .stands)
 
-pub label-trust : (p : List ℕ) (b : Bool) (x r : ℕ) → b ≡ true → r ≡ byte p (7 + 2 * x) → r ≡ labelByte p (sideOf b) x
-label-trust p b x r e f = rw e f
+none-named : {A : Type 0} (o : AtomOf) (m : Atom) → Names o m → o ≡ atom.No → A
+none-named o m u h = let z : _≡_ {A = ℕ} 0 1 = cc (u .is) in absurd (omega arith)
 
-pub label-reading : (p : List ℕ) (b : Bool) (x r : ℕ) → b ≡ false → r ≡ byte p (6 + 2 * x) → r ≡ labelByte p (sideOf b) x
-label-reading p b x r e f = rw e f
+-- what a write is held to fits
+target-fits : (s p : List ℕ) (side : Side) (w : Written) (x : ℕ) → LabelsBelow (roles s) p (variables p) → x < limitOf s p w → AtomFits (roles s) (targetOf p side w x)
+target-fits s p side Variable x labels l = label-below (roles s) p (variables p) labels side x l
+target-fits s p side Role x labels l = l
 
-pub watchers-trust : (b : Bool) (x : ℕ) → b ≡ true → 128 + x ≡ watchersByte (sideOf b) x
-watchers-trust b x e = rw e
+module _ (p t : List ℕ) (c : Context) (side : Side) (w : Written) (x : ℕ) (o : AtomOf) (f : TargetAt p side w x o) where
+  pub one-unknown : o ≡ atom.No → OneBelow p t c side w x false
+  unfolding TargetAt OneBelow
+  one-unknown h s known C asked l = none-named o _ (f s (asked .is-accepted) (asked .labels) l) h
 
-pub watchers-reading : (b : Bool) (x : ℕ) → b ≡ false → 64 + x ≡ watchersByte (sideOf b) x
-watchers-reading b x e = rw e
+  pub one-atom : (a : CodeAtom) (r : Bool) → o ≡ atom.Is a → BelowAtom t c side (modelAtom a) r → OneBelow p t c side w x r
+  unfolding TargetAt BelowAtom OneBelow
+  one-atom a r h g s known C asked l =
+      let e : modelAtom a ≡ targetOf p side w x = same-named o a _ (f s (asked .is-accepted) (asked .labels) l) h in
+      rw e at (g s p known C asked (rw e (target-fits s p side w x (asked .labels) l)))
 
-pub ruleset belows = (below-trust, below-reading, label-trust, label-reading, watchers-trust, watchers-reading)
+pub ruleset ones = (one-unknown, one-atom)
 
--- the label of one variable, the watchers of one role
-module _ (s p t : List ℕ) (c : Context) (known : List Query) (C : Side → List Atom) (asked : Asked s t c known C) (side : Side) (x y : ℕ) (r : Bool) (f : BelowSide t c side y r) where
-  below-label : (vars : ℕ) → LabelsBelow (roles s) p vars → x < vars → y ≡ labelByte p side x → r ≡ joinAtMost s known (C side) (label p side x)
-  unfolding BelowSide
-  below-label vars labels l e = f s known C (label p side x) asked (ap atomByte (label-atom p side x) ∙ atom-byte (labelByte p side x) ∙ sym e) (label-below (roles s) p vars labels side x l)
+-- an answer for what is left of a set is one for the whole
+module _ (p t : List ℕ) (c : Context) (side : Side) (w : Written) where
+  unfoldable pub Left : ℕ → ℕ → Type 0
+  Left left set = (r : Bool) → AllBelow p t c side w left r → AllBelow p t c side w set r
 
-  below-watchers : x < roles s → y ≡ watchersByte side x → r ≡ joinAtMost s known (C side) (fixed (of side x))
-  unfolding BelowSide
-  below-watchers l e = f s known C (fixed (of side x)) asked (go side ∙ sym e) l
-    where
-      go : (side : Side) → atomByte (fixed (of side x)) ≡ watchersByte side x
-      go reading = refl
-      go trust = refl
+  pub all-start : (set : ℕ) → Left set set
+  unfolding Left
+  all-start set r f = f
 
--- an answer for what is left is one for the whole
-module _ (p t : List ℕ) (c : Context) (side : Side) where
-  unfoldable pub VariablesLeft : ℕ → ℕ → Type 0
-  VariablesLeft left xs = (r : Bool) → VariablesBelow p t c side left r → VariablesBelow p t c side xs r
+  module _ (set left : ℕ) (inv : Left left set) where
+    pub all-done : left ≤ 0 → AllBelow p t c side w set true
+    unfolding Left AllBelow allAbove
+    all-done z = inv true (λ s known C asked sub. sym (each-none _ left roleLimit z))
 
-  pub variables-start : (xs : ℕ) → VariablesLeft xs xs
-  unfolding VariablesLeft
-  variables-start xs r f = f
+    module _ (x : ℕ) (b : Bool) (e : x ≡ trailingZeros 64 left) (h : has left x ≡ true) (l : x < 64) (f : OneBelow p t c side w x b) where
+      pub all-stop : b ≡ false → AllBelow p t c side w set false
+      unfolding Left AllBelow OneBelow allAbove
+      all-stop k = inv false (λ s known C asked sub.
+          sym (each-stops _ left x h (sym (f s known C asked (sub x h)) ∙ k) roleLimit l))
 
-  module _ (xs left : ℕ) (inv : VariablesLeft left xs) where
-    pub variables-done : left ≤ 0 → VariablesBelow p t c side xs true
-    unfolding VariablesLeft VariablesBelow labelsAbove
-    variables-done z = inv true (λ s known C vars asked labels sub. sym (each-none _ left 64 z))
+      pub all-more : (next : ℕ) → b ≡ true → next ≡ without left (trailingZeros 64 left) → Left next set
+      unfolding Left AllBelow OneBelow allAbove
+      all-more next k j r g = inv r (λ s known C asked sub.
+          let n : next ≡ without left x = j ∙ ap (without left) (sym e) in
+          let u = g s known C asked (λ y m. sub y (without-has left x y (rw n at m) .0)) in
+          rw n at u ∙ each-without _ left x (sym (f s known C asked (sub x h)) ∙ k) roleLimit)
 
-    module _ (x y : ℕ) (b : Bool) (h : Lowest left x) (e : y ≡ labelByte p side x) (f : BelowSide t c side y b) where
-      pub variables-stop : b ≡ false → VariablesBelow p t c side xs false
-      unfolding VariablesLeft VariablesBelow labelsAbove
-      variables-stop k = inv false (λ s known C vars asked labels sub.
-          sym (each-stops _ left x (h .member) (sym (below-label s p t c known C asked side x y b f vars labels (sub x (h .member)) e) ∙ k) 64 (h .small)))
+pub ruleset alls = (all-start, all-done, all-stop, all-more)
 
-      pub variables-more : (next : ℕ) → b ≡ true → next ≡ without left (trailingZeros 64 left) → VariablesLeft next xs
-      unfolding VariablesLeft VariablesBelow labelsAbove
-      variables-more next k j r g = inv r (λ s known C vars asked labels sub.
-          let n : next ≡ without left x = j ∙ ap (without left) (sym (h .is)) in
-          let u = g s known C vars asked labels (λ z m. sub z (without-has left x z (rw n at m) .0)) in
-          rw n at u ∙ each-without _ left x (sym (below-label s p t c known C asked side x y b f vars labels (sub x (h .member)) e) ∙ k) 64)
-
-pub ruleset variables = (variables-start, variables-done, variables-stop, variables-more)
-
-module _ (t : List ℕ) (c : Context) (side : Side) where
-  unfoldable pub RolesLeft : ℕ → ℕ → Type 0
-  RolesLeft left rs = (r : Bool) → RolesBelow t c side left r → RolesBelow t c side rs r
-
-  pub roles-start : (rs : ℕ) → RolesLeft rs rs
-  unfolding RolesLeft
-  roles-start rs r f = f
-
-  module _ (rs left : ℕ) (inv : RolesLeft left rs) where
-    pub roles-done : left ≤ 0 → RolesBelow t c side rs true
-    unfolding RolesLeft RolesBelow watchersAbove
-    roles-done z = inv true (λ s known C asked sub. sym (each-none _ left 64 z))
-
-    module _ (x y : ℕ) (b : Bool) (h : Lowest left x) (e : y ≡ watchersByte side x) (f : BelowSide t c side y b) where
-      pub roles-stop : b ≡ false → RolesBelow t c side rs false
-      unfolding RolesLeft RolesBelow watchersAbove
-      roles-stop k = inv false (λ s known C asked sub.
-          sym (each-stops _ left x (h .member) (sym (below-watchers s t t c known C asked side x y b f (sub x (h .member)) e) ∙ k) 64 (h .small)))
-
-      pub roles-more : (next : ℕ) → b ≡ true → next ≡ without left (trailingZeros 64 left) → RolesLeft next rs
-      unfolding RolesLeft RolesBelow watchersAbove
-      roles-more next k j r g = inv r (λ s known C asked sub.
-          let n : next ≡ without left x = j ∙ ap (without left) (sym (h .is)) in
-          let u = g s known C asked (λ z m. sub z (without-has left x z (rw n at m) .0)) in
-          rw n at u ∙ each-without _ left x (sym (below-watchers s t t c known C asked side x y b f (sub x (h .member)) e) ∙ k) 64)
-
-pub ruleset rolesets = (roles-start, roles-done, roles-stop, roles-more)
-
--- both, then both sides
+-- variables and roles, then both sides
 module _ (p t : List ℕ) (c : Context) where
-  module _ (side : Side) (xs rs : ℕ) (a : Bool) (f : VariablesBelow p t c side xs a) where
-    pub write-roles : (r : Bool) → a ≡ true → RolesBelow t c side rs r → MayWrite p t c side xs rs r
-    unfolding VariablesBelow RolesBelow MayWrite
-    write-roles r e g s known C vars asked labels sub sub′ = g s known C asked sub′ ∙ rw (sym (f s known C vars asked labels sub) ∙ e)
+  module _ (side : Side) (xs rs : ℕ) (a : Bool) (f : AllBelow p t c side Variable xs a) where
+    pub write-roles : (r : Bool) → a ≡ true → AllBelow p t c side Role rs r → MayWrite p t c side xs rs r
+    unfolding AllBelow MayWrite
+    write-roles r e g s known C asked sub sub′ = g s known C asked sub′ ∙ rw (sym (f s known C asked sub) ∙ e)
 
     pub write-not : a ≡ false → MayWrite p t c side xs rs false
-    unfolding VariablesBelow MayWrite
-    write-not e s known C vars asked labels sub sub′ = rw (sym (f s known C vars asked labels sub) ∙ e)
+    unfolding AllBelow MayWrite
+    write-not e s known C asked sub sub′ = rw (sym (f s known C asked sub) ∙ e)
 
   module _ (n : ℕ) (a b : Bool) (e : n ≡ sidesNumber a b) where
     pub write-sides : (xs rs : ℕ) → MayWrite p t c reading xs rs a → MayWrite p t c trust xs rs b → WriteNumber p t c xs rs n
     unfolding MayWrite WriteNumber
-    write-sides xs rs f g s known C vars asked labels sub sub′ = cc (f s known C vars asked labels sub sub′, g s known C vars asked labels sub sub′)
+    write-sides xs rs f g s known C asked sub sub′ = cc (f s known C asked sub sub′, g s known C asked sub sub′)
 
-    pub assign-sides : (x w v u : ℕ) → w ≡ x → v ≡ labelByte p reading w → BelowSide t c reading v a → u ≡ labelByte p trust w → BelowSide t c trust u b → AssignNumber p t c x n
-    unfolding AssignNumber
-    assign-sides x w v u k i f j g s known C vars asked labels l =
-        cc (
-          below-label s p t c known C asked reading x v a f vars labels l (i ∙ ap (labelByte p reading) k),
-          below-label s p t c known C asked trust x u b g vars labels l (j ∙ ap (labelByte p trust) k),
-        )
+    pub assign-sides : (x : ℕ) → OneBelow p t c reading Variable x a → OneBelow p t c trust Variable x b → AssignNumber p t c x n
+    unfolding OneBelow AssignNumber
+    assign-sides x f g s known C asked l = cc (f s known C asked l, g s known C asked l)
 
 pub ruleset numbers = (write-roles, write-not, write-sides, assign-sides)

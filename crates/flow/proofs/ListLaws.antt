@@ -7,125 +7,170 @@ use mathlib.Core.Bool.{Bool, true, false, cond}
 use native.Mathlib.Omega.{arith}
 use lib.Dec.{eqb, ltb}
 use lib.Bits.{bitOr, or-zero-l, or-zero-r}
-use lib.ListN.{length}
 use borrow.Author.Tests.{ltb-true, eq-eqb, ne-eqb, not-true, not-false}
 use Rattle.model.specs.Number.{programRange}
 use Rattle.model.specs.Bytes.{byte}
-use Rattle.model.specs.Policy.{reading, trust, Accepted, principals, roles, rowAt, mayHold, mayTake}
+use Rattle.model.specs.Policy.{reading, trust, Accepted, principals, roles, HasRow, mayHold, mayTake}
 use Rattle.model.specs.Mutation.{Kind, addMember, deleteMember, addTaken, deleteTaken, Mutation, allowed}
 use Rattle.model.specs.Syntax.{of, Atom, role, fixed, atomByte, Query}
 use Rattle.model.specs.Program.{got, bad, readByte, readBelow, atomAt, readAtom, readQuery, mutationAt, readMutation}
 use Rattle.model.specs.Flow.{listedIn, allAllowed}
-use Rattle.model.proofs.Sets.{same-sets, or-assoc}
-use Rattle.model.proofs.Accepted.{accepted-facts}
-use Rattle.order.specs.Table.{AtomBelow, QueryBelow, namedRole, queryRoles, listRoles}
-use Rattle.order.specs.Rows.{atomOf}
-use Rattle.order.proofs.Joins.{joins-query, joins-bytes}
-use Rattle.walk.specs.Positions.{ahead}
-use Rattle.walk.proofs.PositionLaws.{ahead-is}
-use Rattle.walk.proofs.Readings.{then-parts, pick-parts, either-parts, same-value, byte-parts, below-parts, many-none, many-more, query-parts, kindCode, mutation-parts}
-use Rattle.flow.specs.Lists.{PairAt, ListedAt, NamedRoles, PairRolesAt, ListRolesAt, HoldsRight, TakesRight, OneAllowedAt, AllowedAt}
+use Rattle.model.proofs.Sets.{or-assoc}
+use Rattle.model.proofs.Accepted.{accepted-head}
+use Rattle.model.proofs.Rows.{row-inside}
+use Rattle.model.specs.Fits.{AtomFits, QueryFits}
+use Rattle.program.specs.declared.codes.Atom.{Atom as CodeAtom}
+use Rattle.program.specs.declared.codes.AtomOf.{AtomOf}
+use Rattle.program.specs.declared.codes.AtomOf.the-variants as atom
+use Rattle.program.specs.declared.codes.Kind.{Kind as CodeKind}
+use Rattle.program.specs.declared.codes.Kind.the-variants.{AddMember, DeleteMember, AddTaken, DeleteTaken}
+use Rattle.program.specs.declared.codes.KindOf.{KindOf}
+use Rattle.program.specs.declared.codes.KindOf.the-variants as kind
+use Rattle.program.specs.Codes.{atomOf, modelAtom, kindOf, kindByte, modelKind}
+use Rattle.program.proofs.CodeLaws.{atom-is, atom-some, kind-byte, kind-none}
+use Rattle.order.specs.Table.{namedRole, queryOf, queryRoles, listRoles}
+use Rattle.gathered.specs.Positions.{ahead}
+use Rattle.gathered.proofs.PositionLaws.{ahead-is}
+use Rattle.model.proofs.Standing.{then-parts, pick-parts, either-parts, same-value, byte-parts, below-parts, many-none, many-more, query-parts, kindCode, mutation-parts}
+use Rattle.flow.specs.declared.lists.QueryOf.{QueryOf}
+use Rattle.flow.specs.declared.lists.QueryOf.the-variants as query
+use Rattle.flow.specs.Lists.{SameAt, ListedAt, QueryNames, QueryAt, QueryRolesAt, ListRolesAt, HoldsRight, TakesRight, OneAllowedAt, AllowedAt}
 
--- a pair that was read: its second byte stands one ahead, and the next pair two ahead
+-- a query that was read: its second byte stands one ahead, and the next query two ahead
 module _ (p : List ℕ) (R at : ℕ) {k : Query} {end : ℕ} (e : readQuery p R at ≡ got k end) where
-  pair-second : atomByte (k .second) ≡ byte p (ahead p at 1)
-  pair-second = let u = query-parts p R at e in u .second-byte ∙ ap (byte p) (sym (ahead-is p at 1 (omega arith)))
+  query-second : atomByte (k .second) ≡ byte p (ahead p at 1)
+  query-second = let u = query-parts p R at e in u .second-byte ∙ ap (byte p) (sym (ahead-is p at 1 (omega arith)))
 
-  pair-after : end ≡ ahead p at 2
-  pair-after = let u = query-parts p R at e in u .ends ∙ sym (ahead-is p at 2 (u .inside))
+  query-after : end ≡ ahead p at 2
+  query-after = let u = query-parts p R at e in u .ends ∙ sym (ahead-is p at 2 (u .inside))
 
--- one pair against the bytes x and y
-module _ (p : List ℕ) (at x y a : ℕ) (f : a ≡ byte p at) where
-  pub first-differs : (x ≡ a → ⊥) → PairAt p at x y false
-  unfolding PairAt
-  first-differs h R k end q e i j =
-      let u = query-parts p R at e in
-      let n : atomByte (q .first) ≡ atomByte (k .first) → ⊥ = λ z. h (cc (u .first-byte)) in
+-- one query against another
+module _ (p : List ℕ) (at other x a : ℕ) (e : x ≡ byte p other) (f : a ≡ byte p at) where
+  pub first-differs : (x ≡ a → ⊥) → SameAt p at other false
+  unfolding SameAt
+  first-differs h R k q end after i j =
+      let u = query-parts p R at i in
+      let v = query-parts p R other j in
+      let n : atomByte (q .first) ≡ atomByte (k .first) → ⊥ = λ z. h (cc (u .first-byte, v .first-byte)) in
       simp (ne-eqb _ _ n)
 
-  pub first-same : (n b : ℕ) → x ≡ a → n ≡ ahead p at 1 → b ≡ byte p n → PairAt p at x y (eqb y b)
-  unfolding PairAt
-  first-same n b h g c R k end q e i j =
-      let u = query-parts p R at e in
-      let z : atomByte (q .first) ≡ atomByte (k .first) = cc (u .first-byte) in
-      let w : atomByte (k .second) ≡ b = cc (pair-second p R at e) in
-      simp (eq-eqb _ _ z, w, j)
+  pub first-same : (m y n b : ℕ) → x ≡ a → m ≡ ahead p other 1 → y ≡ byte p m → n ≡ ahead p at 1 → b ≡ byte p n → SameAt p at other (eqb y b)
+  unfolding SameAt
+  first-same m y n b h g₁ c₁ g₂ c₂ R k q end after i j =
+      let u = query-parts p R at i in
+      let v = query-parts p R other j in
+      let z : atomByte (q .first) ≡ atomByte (k .first) = cc (u .first-byte, v .first-byte) in
+      let s : atomByte (k .second) ≡ b = cc (query-second p R at i) in
+      let o : atomByte (q .second) ≡ y = cc (query-second p R other j) in
+      simp (eq-eqb _ _ z, s, o)
 
-pub ruleset pair-laws = (first-differs, first-same)
+pub ruleset sames = (first-differs, first-same)
 
--- the answer for the `left` pairs from `here` on is the answer for all n
-module _ (p : List ℕ) (n at x y : ℕ) where
+-- the answer for the `left` queries from `here` on is the answer for all n
+module _ (p : List ℕ) (n at other : ℕ) where
   unfoldable pub Listing : ℕ → ℕ → Type 0
-  Listing left here = (r : Bool) → ListedAt p left here x y r → ListedAt p n at x y r
+  Listing left here = (r : Bool) → ListedAt p left here other r → ListedAt p n at other r
 
   pub listing-starts : Listing n at
   unfolding Listing
   listing-starts r h = h
 
   module _ (left here : ℕ) (f : Listing left here) where
-    pub listing-ends : left ≤ 0 → ListedAt p n at x y false
+    pub listing-ends : left ≤ 0 → ListedAt p n at other false
     unfolding Listing ListedAt listedIn
-    listing-ends h = f false (λ R qs end q e i j. rw (many-none (readQuery p R) left here e h .0))
+    listing-ends h = f false (λ R qs q end after e i. rw (many-none (readQuery p R) left here e h .0))
 
-    module _ (some : 0 < left) (r : Bool) (g : PairAt p here x y r) where
-      pub listing-finds : r ≡ true → ListedAt p n at x y true
-      unfolding Listing ListedAt PairAt listedIn
-      listing-finds h = f true (λ R qs end q e i j.
+    module _ (some : 0 < left) (r : Bool) (g : SameAt p here other r) where
+      pub listing-finds : r ≡ true → ListedAt p n at other true
+      unfolding Listing ListedAt SameAt listedIn
+      listing-finds h = f true (λ R qs q end after e i.
           let u = many-more (readQuery p R) left here e some in
-          rw (u .is, ← (g R (u .head) (u .mid) q (u .head-read) i j), h))
+          rw (u .is, ← (g R (u .head) q (u .mid) after (u .head-read) i), h))
 
       pub listing-goes-on : (next : ℕ) → r ≡ false → next ≡ ahead p here 2 → Listing (left - 1) next
-      unfolding Listing ListedAt PairAt listedIn
-      listing-goes-on next h k b l = f b (λ R qs end q e i j.
+      unfolding Listing ListedAt SameAt listedIn
+      listing-goes-on next h k b l = f b (λ R qs q end after e i.
           let u = many-more (readQuery p R) left here e some in
-          let m : u .mid ≡ next = pair-after p R here (u .head-read) ∙ sym k in
-          rw (u .is, ← (g R (u .head) (u .mid) q (u .head-read) i j), h) (l R (u .tail) end q (rw m at (u .tail-read)) i j))
+          let m : u .mid ≡ next = query-after p R here (u .head-read) ∙ sym k in
+          rw (u .is, ← (g R (u .head) q (u .mid) after (u .head-read) i), h) (l R (u .tail) q end after (rw m at (u .tail-read)) i))
 
 pub ruleset listings = (listing-starts, listing-ends, listing-finds, listing-goes-on)
 
--- the roles named in a query: the table's words for the labels of its atoms are the same set
-pub both-named : (x y a b : ℕ) → a ≡ namedRole (atomOf x) → b ≡ namedRole (atomOf y) → NamedRoles x y (bitOr a b)
-unfolding NamedRoles
-both-named x y a b f g q i j l =
-    let u = joins-query reading q in
-    let v = joins-bytes reading 64 x y a b q (omega arith) l i j f g in
-    same-sets (bitOr a b) (queryRoles q)
-    (λ k h. u .fixed-in reading k (v .fixed-out k h) .1)
-    (λ k h. v .fixed-in reading k (u .fixed-out k h) .1)
-
 -- an atom that was read names a role below 64, by its byte
-atom-at-small : (R at x next : ℕ) {a : Atom} {end : ℕ} → atomAt R at x next ≡ got a end → AtomBelow 64 a
+atom-at-small : (R at x next : ℕ) {a : Atom} {end : ℕ} → atomAt R at x next ≡ got a end → AtomFits 64 a
 unfolding atomAt
 atom-at-small R at x next {a} {end} e =
     ⊎-elim (λ h. small (λ j. role j) x (h .1) (ltb-true x 0x40 (h .0)))
     (λ h. ⊎-elim (λ g. small (λ j. fixed (of reading j)) (x - 0x40) (g .1) (omega (arith, ltb-true x 0x80 (g .0))))
     (λ h. ⊎-elim (λ g. small (λ j. fixed (of trust j)) (x - 0x80) (g .1) (omega (arith, ltb-true x 0xc0 (g .0))))
-    (λ h. subst (AtomBelow 64) (sym (same-value (pick-parts (eqb x 0xff) _ _ _ (h .1) .1) .0)) tt)
+    (λ h. subst (AtomFits 64) (sym (same-value (pick-parts (eqb x 0xff) _ _ _ (h .1) .1) .0)) tt)
     (either-parts (ltb x 0xc0) _ _ (h .1)))
     (either-parts (ltb x 0x80) _ _ (h .1)))
     (either-parts (ltb x 0x40) _ _ e)
   where
-    small : (f : ℕ → Atom) (j : ℕ) → cond (ltb j R) (got (f j) next) (bad programRange at) ≡ got a end → AtomBelow 64 (f j) → AtomBelow 64 a
-    small f j h g = subst (AtomBelow 64) (sym (same-value (pick-parts (ltb j R) _ _ _ h .1) .0)) g
+    small : (f : ℕ → Atom) (j : ℕ) → cond (ltb j R) (got (f j) next) (bad programRange at) ≡ got a end → AtomFits 64 (f j) → AtomFits 64 a
+    small f j h g = subst (AtomFits 64) (sym (same-value (pick-parts (ltb j R) _ _ _ h .1) .0)) g
 
-atom-small : (p : List ℕ) (R at : ℕ) {a : Atom} {end : ℕ} → readAtom p R at ≡ got a end → AtomBelow 64 a
+atom-small : (p : List ℕ) (R at : ℕ) {a : Atom} {end : ℕ} → readAtom p R at ≡ got a end → AtomFits 64 a
 unfolding readAtom
 atom-small p R at e = let u = then-parts (readByte p at) _ e in atom-at-small R at (u .value) (u .mid) (u .after)
 
-query-small : (p : List ℕ) (R at : ℕ) {q : Query} {end : ℕ} → readQuery p R at ≡ got q end → QueryBelow 64 q
+query-small : (p : List ℕ) (R at : ℕ) {q : Query} {end : ℕ} → readQuery p R at ≡ got q end → QueryFits 64 q
 unfolding readQuery
 query-small p R at e =
     let u = then-parts (readAtom p R at) _ e in
     let v = then-parts (readAtom p R (u .mid)) _ (u .after) in
-    subst (QueryBelow 64) (sym (same-value (v .after) .0)) (atom-small p R at (u .first), atom-small p R (u .mid) (v .first))
+    subst (QueryFits 64) (sym (same-value (v .after) .0)) (atom-small p R at (u .first), atom-small p R (u .mid) (v .first))
 
-pub pair-names : (p : List ℕ) (at x n y r : ℕ) → x ≡ byte p at → n ≡ ahead p at 1 → y ≡ byte p n → NamedRoles x y r → PairRolesAt p at r
-unfolding NamedRoles PairRolesAt
-pair-names p at x n y r e f g h R q end k =
-    let u = query-parts p R at k in
-    h q (cc (u .first-byte)) (cc (pair-second p R at k)) (query-small p R at k)
+-- what the code takes the two bytes of a query for is that query
+module _ (p : List ℕ) (at : ℕ) (o : AtomOf) (f : o ≡ atomOf (byte p at)) where
+  pub query-no-first : (r : QueryOf) → o ≡ atom.No → QueryAt p at r
+  unfolding QueryAt
+  query-no-first r h R q end e = absurd (atom-some (q .first) (query-small p R at e .0) (byte p at) (query-parts p R at e .first-byte) o f h)
 
--- the roles found so far, with those of the `left` pairs from `here` on, are the roles of all n
+  module _ (n : ℕ) (o′ : AtomOf) (i : n ≡ ahead p at 1) (g : o′ ≡ atomOf (byte p n)) where
+    second-byte : (R : ℕ) (q : Query) (end : ℕ) → readQuery p R at ≡ got q end → atomByte (q .second) ≡ byte p n
+    second-byte R q end e = query-second p R at e ∙ ap (byte p) (sym i)
+
+    pub query-no-second : (r : QueryOf) → o′ ≡ atom.No → QueryAt p at r
+    unfolding QueryAt
+    query-no-second r h R q end e = absurd (atom-some (q .second) (query-small p R at e .1) (byte p n) (second-byte R q end e) o′ g h)
+
+    pub query-both : (a b : CodeAtom) → o ≡ atom.Is a → o′ ≡ atom.Is b → QueryAt p at (query.Is a b)
+    unfolding QueryAt
+    query-both a b h k R q end e =
+        let x : modelAtom a ≡ q .first = atom-is (q .first) (query-small p R at e .0) (byte p at) (query-parts p R at e .first-byte) o f a h in
+        let y : modelAtom b ≡ q .second = atom-is (q .second) (query-small p R at e .1) (byte p n) (second-byte R q end e) o′ g b k in
+        record { first = a; second = b; is = refl; stands = λ z. record { first = x z; second = y z } }
+
+pub ruleset query-reads = (query-no-first, query-no-second, query-both)
+
+pub query-not : {A : Type 0} (o : QueryOf) (q : Query) → QueryNames o q → o ≡ query.No → A
+query-not o q u h = let z : _≡_ {A = ℕ} 0 1 = cc (u .is) in absurd (omega arith)
+
+pub query-is : (o : QueryOf) (q : Query) (a b : CodeAtom) → QueryNames o q → o ≡ query.Is a b → queryOf a b ≡ q
+query-is o q a b u h =
+    let x : a ≡ u .first = cc (u .is) in
+    let y : b ≡ u .second = cc (u .is) in
+    rw (x, y) (u .stands)
+
+-- the roles named in two atoms
+pub named-two : (a b : CodeAtom) (x y : ℕ) → x ≡ namedRole (modelAtom a) → y ≡ namedRole (modelAtom b) → bitOr x y ≡ queryRoles (queryOf a b)
+named-two a b x y e f = rw (e, f)
+
+-- the roles named in one query
+module _ (p : List ℕ) (at : ℕ) (o : QueryOf) (f : QueryAt p at o) where
+  pub named-none : o ≡ query.No → QueryRolesAt p at 0
+  unfolding QueryAt QueryRolesAt
+  named-none h R q end e = query-not o q (f R q end e) h
+
+  pub named-both : (a b : CodeAtom) (r : ℕ) → o ≡ query.Is a b → r ≡ queryRoles (queryOf a b) → QueryRolesAt p at r
+  unfolding QueryAt QueryRolesAt
+  named-both a b r h l R q end e = l ∙ ap queryRoles (query-is o q a b (f R q end e) h)
+
+pub ruleset query-names = (named-none, named-both)
+
+-- the roles found so far, with those of the `left` queries from `here` on, are the roles of all n
 module _ (p : List ℕ) (n at : ℕ) where
   unfoldable pub Naming : ℕ → ℕ → ℕ → Type 0
   Naming found left here = (r : ℕ) → ListRolesAt p left here r → ListRolesAt p n at (bitOr found r)
@@ -139,30 +184,24 @@ module _ (p : List ℕ) (n at : ℕ) where
     unfolding Naming ListRolesAt listRoles
     naming-ends h = rw or-zero-r at (f 0 (λ R qs end e. rw (many-none (readQuery p R) left here e h .0)))
 
-    pub naming-goes-on : (k r next : ℕ) → k < left → PairRolesAt p here r → next ≡ ahead p here 2 → Naming (bitOr found r) (left - 1) next
-    unfolding Naming ListRolesAt PairRolesAt listRoles
+    pub naming-goes-on : (k r next : ℕ) → k < left → QueryRolesAt p here r → next ≡ ahead p here 2 → Naming (bitOr found r) (left - 1) next
+    unfolding Naming ListRolesAt QueryRolesAt listRoles
     naming-goes-on k r next some g e b l = rw or-assoc (f (bitOr r b) (λ R qs end d.
         let u = many-more (readQuery p R) left here d (omega arith) in
-        let m : u .mid ≡ next = pair-after p R here (u .head-read) ∙ sym e in
+        let m : u .mid ≡ next = query-after p R here (u .head-read) ∙ sym e in
         rw (u .is, g R (u .head) (u .mid) (u .head-read), l R (u .tail) end (rw m at (u .tail-read)))))
 
 pub ruleset namings = (naming-starts, naming-ends, naming-goes-on)
 
--- rows of an accepted policy lie within its bytes
-module _ (s : List ℕ) (ok : Accepted s) where
-  pub head-inside : 6 < length s
-  head-inside = omega (arith, accepted-facts s ok .long)
-
-  pub row-inside : (i j : ℕ) → i ≡ j → j < roles s → rowAt i + 22 ≤ length s
-  row-inside i j e h = omega (arith, accepted-facts s ok .long)
-
-pub ruleset insides = (head-inside, row-inside)
+-- a role that there is has its row
+pub row-there : (s : List ℕ) → Accepted s → (n i j : ℕ) → n ≡ roles s → i ≡ j → j < n → HasRow s i
+row-there s ok n i j e f h = row-inside s (accepted-head s ok) i (rw (f, ← e) h)
 
 -- whether role i may hold the principal x, which the code has as wider numbers j and y
 module _ (s : List ℕ) (i x : ℕ) where
-  pub hold-none : roles s ≤ i → HoldsRight s i x false
+  pub hold-none : (n : ℕ) → n ≡ roles s → n ≤ i → HoldsRight s i x false
   unfolding HoldsRight
-  hold-none h l = absurd (omega arith)
+  hold-none n e h l = absurd (omega arith)
 
   pub hold-is : (j y : ℕ) (r : Bool) → j ≡ i → y ≡ x → r ≡ mayHold s j y → HoldsRight s i x r
   unfolding HoldsRight
@@ -172,13 +211,13 @@ pub ruleset holds-laws = (hold-none, hold-is)
 
 -- whether role i may take in role j, which the code has as wider numbers a and b
 module _ (s : List ℕ) (i j : ℕ) where
-  pub take-none : roles s ≤ i → TakesRight s i j false
+  pub take-none : (n : ℕ) → n ≡ roles s → n ≤ i → TakesRight s i j false
   unfolding TakesRight
-  take-none h l m = absurd (omega arith)
+  take-none n e h l m = absurd (omega arith)
 
-  pub take-no-other : roles s ≤ j → TakesRight s i j false
+  pub take-no-other : (n : ℕ) → n ≡ roles s → n ≤ j → TakesRight s i j false
   unfolding TakesRight
-  take-no-other h l m = absurd (omega arith)
+  take-no-other n e h l m = absurd (omega arith)
 
   pub take-is : (a b : ℕ) (r : Bool) → a ≡ i → b ≡ j → r ≡ mayTake s a b → TakesRight s i j r
   unfolding TakesRight
@@ -196,52 +235,68 @@ taken-fits p P R at e c =
     let v = then-parts (readBelow p R (u .mid)) _ (u .after) in
     rw (same-value (v .after) .0) (below-parts p (u .mid) R (v .first) .2)
 
-is-member : (kind : Kind) → kindCode kind ≡ 0 → kind ≡ addMember
-is-member addMember e = refl
-is-member deleteMember e = absurd (omega arith)
-is-member addTaken e = absurd (omega arith)
-is-member deleteTaken e = absurd (omega arith)
+-- a kind's code is the one that reading knows it by
+abbrev kindAt : ℕ → Kind
+kindAt n = cond (eqb n 0) addMember (cond (eqb n 1) deleteMember (cond (eqb n 2) addTaken deleteTaken))
 
-is-taken : (kind : Kind) → kindCode kind ≡ 2 → kind ≡ addTaken
-is-taken addMember e = absurd (omega arith)
-is-taken deleteMember e = absurd (omega arith)
-is-taken addTaken e = refl
-is-taken deleteTaken e = absurd (omega arith)
+kind-at : (kind : Kind) → kindAt (kindCode kind) ≡ kind
+kind-at addMember = refl
+kind-at deleteMember = refl
+kind-at addTaken = refl
+kind-at deleteTaken = refl
+
+code-kind : (k : CodeKind) → kindAt (kindByte k) ≡ modelKind k
+code-kind AddMember = refl
+code-kind DeleteMember = refl
+code-kind AddTaken = refl
+code-kind DeleteTaken = refl
 
 -- one mutation that was read: k, i and x are the code's kind, role and operand
-module _ (s p : List ℕ) (at k n m i x : ℕ) (d : k ≡ byte p at) where
-  pub deletion : (k ≡ 0 → ⊥) → (k ≡ 2 → ⊥) → OneAllowedAt s p at true
-  unfolding OneAllowedAt allowed
-  deletion f g o end h = let u = mutation-parts p (principals s) (roles s) at h in go (o .kind) (u .kind-byte)
+module _ (s p : List ℕ) (at : ℕ) (o : KindOf) (d : o ≡ kindOf (byte p at)) where
+  pub kind-unknown : (r : Bool) → o ≡ kind.No → OneAllowedAt s p at r
+  unfolding OneAllowedAt
+  kind-unknown r h m end e = absurd (go (m .kind) (mutation-parts p (principals s) (roles s) at e .kind-byte))
     where
-      go : (kind : Kind) → kindCode kind ≡ byte p at → true ≡ allowed s kind (o .role) (o .operand)
-      go addMember e = absurd (f (d ∙ sym e))
-      go deleteMember e = refl
-      go addTaken e = absurd (g (d ∙ sym e))
-      go deleteTaken e = refl
+      go : (k : Kind) → kindCode k ≡ byte p at → ⊥
+      go addMember c = omega (arith, kind-none (byte p at) o d h)
+      go deleteMember c = omega (arith, kind-none (byte p at) o d h)
+      go addTaken c = omega (arith, kind-none (byte p at) o d h)
+      go deleteTaken c = omega (arith, kind-none (byte p at) o d h)
 
-  module _ (e : n ≡ ahead p at 1) (f : m ≡ ahead p at 2) (g : i ≡ byte p n) (h : x ≡ byte p m) where
-    role-is : {o : Mutation} {end : ℕ} → readMutation p (principals s) (roles s) at ≡ got o end → o .role ≡ i
-    role-is c = let u = mutation-parts p (principals s) (roles s) at c in u .role-byte ∙ ap (byte p) (sym (ahead-is p at 1 (omega arith))) ∙ cc
+  module _ (k : CodeKind) (j : o ≡ kind.Is k) where
+    kind-is : {m : Mutation} {end : ℕ} → readMutation p (principals s) (roles s) at ≡ got m end → m .kind ≡ modelKind k
+    kind-is {m} e = sym (kind-at (m .kind)) ∙ ap kindAt (mutation-parts p (principals s) (roles s) at e .kind-byte ∙ kind-byte (byte p at) o d k j) ∙ code-kind k
 
-    operand-is : {o : Mutation} {end : ℕ} → readMutation p (principals s) (roles s) at ≡ got o end → o .operand ≡ x
-    operand-is c = let u = mutation-parts p (principals s) (roles s) at c in u .operand-byte ∙ ap (byte p) (sym (ahead-is p at 2 (omega arith))) ∙ cc
+    pub member-deleted : k ≡ DeleteMember → OneAllowedAt s p at true
+    unfolding OneAllowedAt allowed
+    member-deleted z m end e = rw (kind-is e ∙ ap modelKind z)
 
-    pub member-added : (r : Bool) → k ≡ 0 → HoldsRight s i x r → OneAllowedAt s p at r
-    unfolding OneAllowedAt HoldsRight allowed
-    member-added r z l o end c =
-        let u = mutation-parts p (principals s) (roles s) at c in
-        rw (is-member (o .kind) (u .kind-byte ∙ sym d ∙ z), role-is c, operand-is c) (l (rw (role-is c) at (u .role-fits)))
+    pub taken-deleted : k ≡ DeleteTaken → OneAllowedAt s p at true
+    unfolding OneAllowedAt allowed
+    taken-deleted z m end e = rw (kind-is e ∙ ap modelKind z)
 
-    pub taken-added : (r : Bool) → k ≡ 2 → TakesRight s i x r → OneAllowedAt s p at r
-    unfolding OneAllowedAt TakesRight allowed
-    taken-added r z l o end c =
-        let u = mutation-parts p (principals s) (roles s) at c in
-        let v = taken-fits p (principals s) (roles s) at c (sym d ∙ z) in
-        rw (is-taken (o .kind) (u .kind-byte ∙ sym d ∙ z), role-is c, operand-is c)
-        (l (rw (role-is c) at (u .role-fits)) (rw (operand-is c) at v))
+    module _ (n m i x : ℕ) (e : n ≡ ahead p at 1) (f : m ≡ ahead p at 2) (g : i ≡ byte p n) (h : x ≡ byte p m) where
+      role-is : {o : Mutation} {end : ℕ} → readMutation p (principals s) (roles s) at ≡ got o end → o .role ≡ i
+      role-is c = let u = mutation-parts p (principals s) (roles s) at c in u .role-byte ∙ ap (byte p) (sym (ahead-is p at 1 (omega arith))) ∙ cc
 
-pub ruleset one-laws = (deletion, member-added, taken-added)
+      operand-is : {o : Mutation} {end : ℕ} → readMutation p (principals s) (roles s) at ≡ got o end → o .operand ≡ x
+      operand-is c = let u = mutation-parts p (principals s) (roles s) at c in u .operand-byte ∙ ap (byte p) (sym (ahead-is p at 2 (omega arith))) ∙ cc
+
+      pub member-added : (r : Bool) → k ≡ AddMember → HoldsRight s i x r → OneAllowedAt s p at r
+      unfolding OneAllowedAt HoldsRight allowed
+      member-added r z l o end c =
+          let u = mutation-parts p (principals s) (roles s) at c in
+          rw (kind-is c ∙ ap modelKind z, role-is c, operand-is c) (l (rw (role-is c) at (u .role-fits)))
+
+      pub taken-added : (r : Bool) → k ≡ AddTaken → TakesRight s i x r → OneAllowedAt s p at r
+      unfolding OneAllowedAt TakesRight allowed
+      taken-added r z l o′ end c =
+          let u = mutation-parts p (principals s) (roles s) at c in
+          let v = taken-fits p (principals s) (roles s) at c (kind-byte (byte p at) o d k j ∙ ap kindByte z) in
+          rw (kind-is c ∙ ap modelKind z, role-is c, operand-is c)
+          (l (rw (role-is c) at (u .role-fits)) (rw (operand-is c) at v))
+
+pub ruleset one-laws = (kind-unknown, member-deleted, taken-deleted, member-added, taken-added)
 
 -- the answer for the `left` mutations from `here` on is the answer for all n
 module _ (s p : List ℕ) (n at : ℕ) where

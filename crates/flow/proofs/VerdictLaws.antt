@@ -1,31 +1,27 @@
 -- A law for each return of verdict.rt: a program that was read stands for its tree from the first byte of its body on.
-use mathlib.Core.Path.{_≡_, refl, sym, _∙_}
-use Prim.Native.Nat.{ℕ, _+_, _*_}
+use mathlib.Core.Path.{_≡_, refl, sym, ap, _∙_}
+use Prim.Native.Nat.{ℕ, _+_, _*_, _≤_}
 use native.Mathlib.Omega.{arith}
 use mathlib.Core.List.{List, []}
 use borrow.Author.Tests.{ne-eqb}
 use Rattle.model.specs.Number.{Verdict as Judgement, fine, refused}
-use Rattle.model.specs.Bytes.{byte}
 use Rattle.model.specs.Policy.{reading, trust, principals, roles, policyNumber, Accepted}
 use Rattle.model.specs.Syntax.{Stmt}
-use Rattle.model.specs.Program.{Read as Reading, got, bad, variables, readProgram}
+use Rattle.model.specs.Program.{Read as Reading, got, bad, variables, bodyAt, readProgram}
 use Rattle.model.specs.Flow.{outside, flow, bodyVerdict, programVerdict}
 use Rattle.model.proofs.Accepted.{accepted-facts}
 use Rattle.model.proofs.Reading.{ProgramParts, program-parts}
 use Rattle.order.specs.Table.{Knows}
-use Rattle.program.specs.declared.answer.Read.{Read}
-use Rattle.program.specs.declared.answer.Read.the-variants.{At, Bad}
-use Rattle.program.specs.Answer.{answerOf}
+use Rattle.program.specs.declared.answer.Answer.{Answer}
+use Rattle.program.specs.declared.answer.Answer.the-variants as answer
+use Rattle.program.specs.Answer.{Reached, reached, stopped, reachedBy, endOf}
+use Rattle.gathered.specs.Labels.{LabelsBelow}
 use Rattle.flow.specs.declared.context.Context.{Context}
-use Rattle.flow.specs.declared.check.Around.{Around}
-use Rattle.flow.specs.declared.check.Checked.{Checked}
-use Rattle.flow.specs.declared.check.Checked.the-variants as checked
 use Rattle.flow.specs.declared.verdict.Verdict.{Verdict}
 use Rattle.flow.specs.declared.verdict.Verdict.the-variants.{Fine, Refused}
 use Rattle.flow.specs.Context.{noContext}
-use Rattle.walk.specs.Labels.{LabelsBelow}
-use Rattle.flow.specs.Check.{noTransaction, checkedOf, Ready, CheckedAt}
-use Rattle.flow.specs.Verdict.{verdictAs, BodyVerdict}
+use Rattle.flow.specs.Check.{checkedTo, Ready, CheckedAt}
+use Rattle.flow.specs.Verdict.{verdictOf, BodyVerdict}
 use Rattle.flow.proofs.ContextLaws.{context-none}
 
 -- the labels of a program that was read
@@ -35,75 +31,79 @@ labels-below p P R u reading v l n = u .labels (2 * v) (omega arith) n
 labels-below p P R u trust v l n = let k : 6 + (2 * v + 1) ≡ 7 + 2 * v = omega arith in rw k at (u .labels (2 * v + 1) (omega arith)) n
 
 -- the check may begin
-pub body-ready : (s t : List ℕ) (R : ℕ) → Accepted s → Knows s [] t → R ≡ byte s 6 → Ready s t R
-body-ready s t R ok k e = record { is-accepted = ok; long = k .long; few = rw e (accepted-facts s ok .roles-fit) }
+pub body-ready : (s t : List ℕ) → Accepted s → Knows s [] t → Ready s t
+body-ready s t ok k = record { is-accepted = ok; long = k .long }
 
-module _ (s p t : List ℕ) (P R n w : ℕ) (a : Around) (c : Context) (ok : Accepted s) (k : Knows s [] t) (e₁ : P ≡ byte s 5) (e₂ : R ≡ byte s 6) (e₃ : n ≡ byte p 5) (e₄ : w ≡ n) (ea : a ≡ noTransaction) (ec : c ≡ noContext) (o : Checked)
-    (f : CheckedAt s p t (record { principals = P; roles = R; vars = n }) a c 32 (6 + 2 * w) o) where
-  body-is : (x : Stmt) (end : ℕ) → readProgram p (principals s) (roles s) ≡ got x end → o ≡ checkedOf (flow s p outside [] (λ side. []) x) end
+stopped-not : {A : Type 0} {m k place : ℕ} → reached m ≡ stopped k place → A
+stopped-not e = let z : _≡_ {A = ℕ} 0 1 = cc in absurd (omega arith)
+
+module _ (s p t : List ℕ) (n start : ℕ) (c : Context) (ok : Accepted s) (k : Knows s [] t) (e₁ : n ≡ variables p) (e₂ : start ≡ bodyAt n) (ec : c ≡ noContext) (o : Answer)
+    (f : CheckedAt s p t c 32 start o) where
+  body-is : (x : Stmt) (end : ℕ) → readProgram p (principals s) (roles s) ≡ got x end → reachedBy o ≡ checkedTo (flow s p outside [] (λ side. []) x) end
   unfolding CheckedAt
   body-is x end h =
       let u = program-parts p (principals s) (roles s) h in
-      let at : 6 + 2 * w ≡ 6 + 2 * variables p = omega arith in
+      let at : start ≡ 6 + 2 * variables p = omega arith in
       f outside [] (λ side. []) x end (record {
         is-accepted = ok;
-        principals-are = sym e₁;
-        roles-are = sym e₂;
-        few = rw e₃ (u .few);
-        labels = rw e₃ (labels-below p (principals s) (roles s) u);
+        few = u .few;
+        labels = labels-below p (principals s) (roles s) u;
         knows = k;
-        surrounded = rw ea (refl, refl);
+        surrounded = rw ec refl;
         context = rw ec (context-none (roles s));
-      }) (rw (e₁, e₂, e₃, at) (u .body-read)) (rw (e₁, e₂, e₃) (u .fits))
+      }) (rw at (u .body-read)) (u .fits)
 
-  pub body-fine : (m : ℕ) → o ≡ checked.Next m → BodyVerdict s p Fine
-  unfolding BodyVerdict checkedOf verdictAs
-  body-fine m g x end h = go (flow s p outside [] (λ side. []) x) (sym g ∙ body-is x end h)
+  pub body-fine : (m : ℕ) → o ≡ answer.At m → BodyVerdict s p Fine
+  unfolding BodyVerdict checkedTo
+  body-fine m g x end h = go (flow s p outside [] (λ side. []) x) (ap reachedBy (sym g) ∙ body-is x end h)
     where
-      go : (v : Judgement) → checked.Next m ≡ checkedOf v end → Fine ≡ verdictAs v
+      go : (v : Judgement) → reached m ≡ checkedTo v end → fine ≡ v
       go fine e = refl
-      go (refused n place) e = let z : _≡_ {A = ℕ} 0 1 = cc in absurd (omega arith)
+      go (refused n place) e = stopped-not e
 
-  pub body-refused : (l place : ℕ) → o ≡ checked.Refused l place → BodyVerdict s p (Refused l place)
-  unfolding BodyVerdict checkedOf verdictAs
-  body-refused l place g x end h = go (flow s p outside [] (λ side. []) x) (sym g ∙ body-is x end h)
+  pub body-refused : (l place : ℕ) → o ≡ answer.Refused l place → BodyVerdict s p (Refused l place)
+  unfolding BodyVerdict checkedTo
+  body-refused l place g x end h = go (flow s p outside [] (λ side. []) x) (ap reachedBy (sym g) ∙ body-is x end h)
     where
-      go : (v : Judgement) → checked.Refused l place ≡ checkedOf v end → Refused l place ≡ verdictAs v
-      go fine e = let z : _≡_ {A = ℕ} 0 1 = cc in absurd (omega arith)
+      go : (v : Judgement) → stopped l place ≡ checkedTo v end → refused l place ≡ v
+      go fine e = stopped-not (sym e)
       go (refused m q) e = cc
 
 pub ruleset bodies = (body-ready, body-fine, body-refused)
 
 -- the reading
-module _ (s p : List ℕ) (P R : ℕ) (e₁ : P ≡ byte s 5) (e₂ : R ≡ byte s 6) (o : Read) (h : o ≡ answerOf (readProgram p P R)) where
-  pub read-refused : (k place : ℕ) → o ≡ Bad k place → Refused k place ≡ verdictAs (bodyVerdict s p (readProgram p (principals s) (roles s)))
-  unfolding answerOf bodyVerdict verdictAs
-  read-refused k place g = go (readProgram p (principals s) (roles s)) (sym g ∙ h ∙ rw (e₁, e₂))
+pub few-roles : (s : List ℕ) (n : ℕ) → Accepted s → n ≡ roles s → n ≤ 64
+few-roles s n ok e = rw e (accepted-facts s ok .roles-fit)
+
+module _ (s p : List ℕ) (P R : ℕ) (e₁ : P ≡ principals s) (e₂ : R ≡ roles s) (o : Answer) (h : reachedBy o ≡ endOf (readProgram p P R)) where
+  pub read-refused : (k place : ℕ) → o ≡ answer.Refused k place → refused k place ≡ bodyVerdict s p (readProgram p (principals s) (roles s))
+  unfolding endOf bodyVerdict
+  read-refused k place g = go (readProgram p (principals s) (roles s)) (ap reachedBy (sym g) ∙ h ∙ rw (e₁, e₂))
     where
-      go : (r : Reading Stmt) → Bad k place ≡ answerOf r → Refused k place ≡ verdictAs (bodyVerdict s p r)
-      go (got x end) e = let z : _≡_ {A = ℕ} 0 1 = cc in absurd (omega arith)
+      go : (r : Reading Stmt) → stopped k place ≡ endOf r → refused k place ≡ bodyVerdict s p r
+      go (got x end) e = stopped-not (sym e)
       go (bad m q) e = cc
 
-  pub read-body : (m : ℕ) (r : Verdict) → o ≡ At m → BodyVerdict s p r → r ≡ verdictAs (bodyVerdict s p (readProgram p (principals s) (roles s)))
-  unfolding BodyVerdict answerOf bodyVerdict
-  read-body m r g f = go (readProgram p (principals s) (roles s)) (sym g ∙ h ∙ rw (e₁, e₂)) f
+  pub read-body : (m : ℕ) (r : Verdict) → o ≡ answer.At m → BodyVerdict s p r → verdictOf r ≡ bodyVerdict s p (readProgram p (principals s) (roles s))
+  unfolding BodyVerdict endOf bodyVerdict
+  read-body m r g f = go (readProgram p (principals s) (roles s)) (ap reachedBy (sym g) ∙ h ∙ rw (e₁, e₂)) f
     where
-      go : (b : Reading Stmt) → At m ≡ answerOf b → ((x : Stmt) (end : ℕ) → b ≡ got x end → r ≡ verdictAs (flow s p outside [] (λ side. []) x)) → r ≡ verdictAs (bodyVerdict s p b)
+      go : (b : Reading Stmt) → reached m ≡ endOf b → ((x : Stmt) (end : ℕ) → b ≡ got x end → verdictOf r ≡ flow s p outside [] (λ side. []) x) → verdictOf r ≡ bodyVerdict s p b
       go (got x end) e f = f x end refl
-      go (bad k q) e f = let z : _≡_ {A = ℕ} 0 1 = cc in absurd (omega arith)
+      go (bad k q) e f = stopped-not e
 
-pub ruleset readings = (read-refused, read-body)
+pub ruleset readings = (few-roles, read-refused, read-body)
 
 -- the policy's number
 module _ (s p : List ℕ) (n : ℕ) (e : n ≡ policyNumber s) where
-  pub policy-refused : (n ≡ 0 → ⊥) → Refused n 0 ≡ verdictAs (programVerdict s p)
-  unfolding programVerdict verdictAs
+  pub policy-refused : (n ≡ 0 → ⊥) → refused n 0 ≡ programVerdict s p
+  unfolding programVerdict
   policy-refused k = rw (e, ne-eqb (policyNumber s) 0 (λ z. k (e ∙ z)))
 
   pub policy-accepted : n ≡ 0 → Accepted s
   policy-accepted h = sym e ∙ h
 
-  pub policy-fine : (r : Verdict) → n ≡ 0 → r ≡ verdictAs (bodyVerdict s p (readProgram p (principals s) (roles s))) → r ≡ verdictAs (programVerdict s p)
+  pub policy-fine : (r : Verdict) → n ≡ 0 → verdictOf r ≡ bodyVerdict s p (readProgram p (principals s) (roles s)) → verdictOf r ≡ programVerdict s p
   unfolding programVerdict
   policy-fine r h f = rw (sym e ∙ h) f
 

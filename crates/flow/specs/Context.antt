@@ -1,29 +1,49 @@
--- The joins of both sides as the words that the code carries.
+-- What surrounds a statement as the words that the code carries.
 use Prim.Native.Nat.{ℕ}
 use mathlib.Core.List.{List}
+use mathlib.Core.Bool.{false}
 use lib.Bits.{bitOr}
 use Rattle.model.specs.Policy.{Side, reading, trust}
 use Rattle.model.specs.Syntax.{Atom}
 use Rattle.order.specs.Table.{Joins, JoinBelow}
-use Rattle.walk.specs.declared.labels.Labels.{Labels}
+use Rattle.gathered.specs.declared.labels.Labels.{Labels}
+use Rattle.flow.specs.declared.context.Around.{Around}
+use Rattle.flow.specs.declared.context.Join.{Join}
 use Rattle.flow.specs.declared.context.Context.{Context}
 
--- the words c stand for the context C, whose atoms are of a policy with n roles
-pub record ContextIs (n : ℕ) (c : Context) (C : Side → List Atom) : Type 0 where
-  pub reading-join : Joins reading (C reading) (c .reading) (c .viewers)
-  pub trust-join : Joins trust (C trust) (c .trust) (c .trusters)
-  pub below : (side : Side) → JoinBelow n (C side)
+-- no transaction
+abbrev pub noTransaction : Around
+noTransaction = record { inside = false; list = 0; count = 0; named = 0; variables = 0; roles = 0 }
 
--- the empty join on each side
+-- the empty join, and a join with more roles and the watchers of more roles
+abbrev pub noLabels : Join
+noLabels = record { roles = 0; watchers = 0 }
+
+abbrev pub joinWith : Join → ℕ → ℕ → Join
+joinWith j rs ws = record { roles = bitOr rs (j .roles); watchers = bitOr ws (j .watchers) }
+
+-- the empty context, outside any transaction
 abbrev pub noContext : Context
-noContext = record { reading = 0; viewers = 0; trust = 0; trusters = 0 }
+noContext = record { around = noTransaction; reading = noLabels; trust = noLabels }
 
 -- with the roles among an expression's labels
 abbrev pub withLabels : Context → Labels → Context
-withLabels c l =
-    record { reading = bitOr (c .reading) (l .reading); viewers = c .viewers; trust = bitOr (c .trust) (l .trust); trusters = c .trusters }
+withLabels c l = record { around = c .around; reading = joinWith (c .reading) (l .reading) 0; trust = joinWith (c .trust) (l .trust) 0 }
 
 -- with the viewers and trusters of the roles named in queries
 abbrev pub withNamed : Context → ℕ → Context
-withNamed c named =
-    record { reading = c .reading; viewers = bitOr (c .viewers) named; trust = c .trust; trusters = bitOr (c .trusters) named }
+withNamed c named = record { around = c .around; reading = joinWith (c .reading) 0 named; trust = joinWith (c .trust) 0 named }
+
+-- within a transaction
+abbrev pub within : Context → Around → Context
+within c a = record { around = a; reading = c .reading; trust = c .trust }
+
+-- the join on a side
+abbrev pub joinOf : Side → Context → Join
+joinOf reading c = c .reading
+joinOf trust c = c .trust
+
+-- the words of c stand for the contexts C of both sides, whose atoms are of a policy with n roles
+pub record ContextIs (n : ℕ) (c : Context) (C : Side → List Atom) : Type 0 where
+  pub joined : (side : Side) → Joins side (C side) (joinOf side c .roles) (joinOf side c .watchers)
+  pub below : (side : Side) → JoinBelow n (C side)

@@ -1,89 +1,103 @@
 -- What the order says of an assignment and of an update, of any policy, known queries and context that the words stand for.
 use mathlib.Core.Path.{_≡_}
-use Prim.Native.Nat.{ℕ, _+_, _<_}
+use Prim.Native.Nat.{ℕ, _<_}
 use mathlib.Core.List.{List}
 use mathlib.Core.Bool.{Bool, true, _&&_}
-use lib.Count.{trailingZeros}
 use Rattle.model.specs.Number.{accepted, flowReading, flowTrust, unless}
+use Rattle.model.specs.Limits.{roleLimit}
 use Rattle.model.specs.Sets.{has}
 use Rattle.model.specs.Policy.{Side, reading, trust, roles, Accepted}
-use Rattle.model.specs.Syntax.{of, Atom, fixed, Query, atomByte}
+use Rattle.model.specs.Syntax.{of, Atom, fixed, Query}
+use Rattle.model.specs.Program.{variables}
+use Rattle.model.specs.Fits.{AtomFits}
 use Rattle.model.specs.Order.{joinAtMost}
 use Rattle.model.specs.Flow.{label, eachIn}
-use Rattle.order.specs.Table.{AtomBelow, Knows}
-use Rattle.walk.specs.Labels.{LabelsBelow}
+use Rattle.order.specs.Table.{Knows}
+use Rattle.program.specs.declared.codes.Atom.{Atom as CodeAtom}
+use Rattle.program.specs.declared.codes.AtomOf.{AtomOf}
+use Rattle.program.specs.declared.codes.AtomOf.the-variants as atom
+use Rattle.program.specs.Codes.{modelAtom}
+use Rattle.gathered.specs.Labels.{LabelsBelow}
 use Rattle.flow.specs.declared.context.Context.{Context}
+use Rattle.flow.specs.declared.judge.Written.{Written}
+use Rattle.flow.specs.declared.judge.Written.the-variants.{Variable, Role}
 use Rattle.flow.specs.Context.{ContextIs}
 
 -- a set of numbers below n
 abbrev pub SetBelow : ℕ → ℕ → Type 0
 SetBelow set n = (i : ℕ) → has set i ≡ true → i < n
 
--- the lowest number in a set, which is below 64
-pub record Lowest (set r : ℕ) : Type 0 where
-  pub is : r ≡ trailingZeros 64 set
-  pub member : has set r ≡ true
-  pub small : r < 64
-
--- the byte of a role's viewers (reading side) or trusters (trust side)
-abbrev pub watchersByte : Side → ℕ → ℕ
-watchersByte reading r = 0x40 + r
-watchersByte trust r = 0x80 + r
-
 -- 17 unless the reading side is derivable, then 18 unless the trust side is
 abbrev pub sidesNumber : Bool → Bool → ℕ
 sidesNumber a b = unless a flowReading (unless b flowTrust accepted)
 
+-- what a write is held to: a variable to its label, a role to its viewers or trusters
+abbrev pub targetOf : List ℕ → Side → Written → ℕ → Atom
+targetOf p side Variable x = label p side x
+targetOf p side Role x = fixed (of side x)
+
+-- how many variables and roles there are
+abbrev pub limitOf : List ℕ → List ℕ → Written → ℕ
+limitOf s p Variable = variables p
+limitOf s p Role = roles s
+
+-- what the code read is the model's atom
+pub record Names (o : AtomOf) (m : Atom) : Type 0 where
+  pub named : CodeAtom
+  pub is : o ≡ atom.Is named
+  pub stands : modelAtom named ≡ m
+
+-- o is what the write of x is held to, where there is such a variable or role
+unfoldable pub TargetAt : List ℕ → Side → Written → ℕ → AtomOf → Type 0
+TargetAt p side w x o =
+    (s : List ℕ) → Accepted s → LabelsBelow (roles s) p (variables p) → x < limitOf s p w → Names o (targetOf p side w x)
+
 -- the words c stand for the context C under the policy s, and the table t for its order under the known queries
-pub record Asked (s t : List ℕ) (c : Context) (known : List Query) (C : Side → List Atom) : Type 0 where
+pub record Asked (s p t : List ℕ) (c : Context) (known : List Query) (C : Side → List Atom) : Type 0 where
   pub is-accepted : Accepted s
+  pub labels : LabelsBelow (roles s) p (variables p)
   pub knows : Knows s known t
   pub context : ContextIs (roles s) c C
 
--- r says whether the context is at most the atom with the byte y
-unfoldable pub BelowSide : List ℕ → Context → Side → ℕ → Bool → Type 0
-BelowSide t c side y r =
-    (s : List ℕ) (known : List Query) (C : Side → List Atom) (b : Atom) → Asked s t c known C
-    → atomByte b ≡ y → AtomBelow (roles s) b → r ≡ joinAtMost s known (C side) b
+-- r says whether the context is at most the atom b
+unfoldable pub BelowAtom : List ℕ → Context → Side → Atom → Bool → Type 0
+BelowAtom t c side b r =
+    (s p : List ℕ) (known : List Query) (C : Side → List Atom) → Asked s p t c known C → AtomFits (roles s) b
+    → r ≡ joinAtMost s known (C side) b
 
--- whether the context is at most the labels of variables, and at most the viewers (trusters) of roles
-module _ (s : List ℕ) (known : List Query) (C : Side → List Atom) (side : Side) where
-  unfoldable pub labelsAbove : List ℕ → ℕ → Bool
-  labelsAbove p xs = eachIn xs (λ x. joinAtMost s known (C side) (label p side x)) 64
+-- r says whether it is at most what the write of x is held to
+unfoldable pub OneBelow : List ℕ → List ℕ → Context → Side → Written → ℕ → Bool → Type 0
+OneBelow p t c side w x r =
+    (s : List ℕ) (known : List Query) (C : Side → List Atom) → Asked s p t c known C → x < limitOf s p w
+    → r ≡ joinAtMost s known (C side) (targetOf p side w x)
 
-  unfoldable pub watchersAbove : ℕ → Bool
-  watchersAbove rs = eachIn rs (λ r. joinAtMost s known (C side) (fixed (of side r))) 64
+-- whether it is at most what the writes of a whole set are held to
+unfoldable pub allAbove : List ℕ → List ℕ → List Query → (Side → List Atom) → Side → Written → ℕ → Bool
+allAbove s p known C side w set = eachIn set (λ x. joinAtMost s known (C side) (targetOf p side w x)) roleLimit
 
--- r says the first, of a set of variables
-unfoldable pub VariablesBelow : List ℕ → List ℕ → Context → Side → ℕ → Bool → Type 0
-VariablesBelow p t c side xs r =
-    (s : List ℕ) (known : List Query) (C : Side → List Atom) (vars : ℕ) → Asked s t c known C
-    → LabelsBelow (roles s) p vars → SetBelow xs vars → r ≡ labelsAbove s known C side p xs
+-- r says that
+unfoldable pub AllBelow : List ℕ → List ℕ → Context → Side → Written → ℕ → Bool → Type 0
+AllBelow p t c side w set r =
+    (s : List ℕ) (known : List Query) (C : Side → List Atom) → Asked s p t c known C → SetBelow set (limitOf s p w)
+    → r ≡ allAbove s p known C side w set
 
--- r says the second, of a set of roles
-unfoldable pub RolesBelow : List ℕ → Context → Side → ℕ → Bool → Type 0
-RolesBelow t c side rs r =
-    (s : List ℕ) (known : List Query) (C : Side → List Atom) → Asked s t c known C
-    → SetBelow rs (roles s) → r ≡ watchersAbove s known C side rs
+-- of variables and of roles
+abbrev pub bothAbove : List ℕ → List ℕ → List Query → (Side → List Atom) → Side → ℕ → ℕ → Bool
+bothAbove s p known C side xs rs = allAbove s p known C side Variable xs && allAbove s p known C side Role rs
 
--- r says both
 unfoldable pub MayWrite : List ℕ → List ℕ → Context → Side → ℕ → ℕ → Bool → Type 0
 MayWrite p t c side xs rs r =
-    (s : List ℕ) (known : List Query) (C : Side → List Atom) (vars : ℕ) → Asked s t c known C
-    → LabelsBelow (roles s) p vars → SetBelow xs vars → SetBelow rs (roles s)
-    → r ≡ labelsAbove s known C side p xs && watchersAbove s known C side rs
+    (s : List ℕ) (known : List Query) (C : Side → List Atom) → Asked s p t c known C → SetBelow xs (variables p) → SetBelow rs (roles s)
+    → r ≡ bothAbove s p known C side xs rs
 
 -- r is the number of that on both sides
 unfoldable pub WriteNumber : List ℕ → List ℕ → Context → ℕ → ℕ → ℕ → Type 0
 WriteNumber p t c xs rs r =
-    (s : List ℕ) (known : List Query) (C : Side → List Atom) (vars : ℕ) → Asked s t c known C
-    → LabelsBelow (roles s) p vars → SetBelow xs vars → SetBelow rs (roles s)
-    → r ≡ sidesNumber (labelsAbove s known C reading p xs && watchersAbove s known C reading rs)
-    (labelsAbove s known C trust p xs && watchersAbove s known C trust rs)
+    (s : List ℕ) (known : List Query) (C : Side → List Atom) → Asked s p t c known C → SetBelow xs (variables p) → SetBelow rs (roles s)
+    → r ≡ sidesNumber (bothAbove s p known C reading xs rs) (bothAbove s p known C trust xs rs)
 
 -- r is the number of an assignment to x
 unfoldable pub AssignNumber : List ℕ → List ℕ → Context → ℕ → ℕ → Type 0
 AssignNumber p t c x r =
-    (s : List ℕ) (known : List Query) (C : Side → List Atom) (vars : ℕ) → Asked s t c known C
-    → LabelsBelow (roles s) p vars → x < vars
+    (s : List ℕ) (known : List Query) (C : Side → List Atom) → Asked s p t c known C → x < variables p
     → r ≡ sidesNumber (joinAtMost s known (C reading) (label p reading x)) (joinAtMost s known (C trust) (label p trust x))

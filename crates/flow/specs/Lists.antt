@@ -5,32 +5,41 @@ use mathlib.Core.List.{List}
 use mathlib.Core.Bool.{Bool}
 use Rattle.model.specs.Policy.{Accepted, principals, roles, mayHold, mayTake}
 use Rattle.model.specs.Mutation.{Mutation, allowed}
-use Rattle.model.specs.Syntax.{Query, atomByte, sameQuery}
+use Rattle.model.specs.Syntax.{Query, sameQuery}
 use Rattle.model.specs.Program.{got, readMany, readQuery, readMutation}
 use Rattle.model.specs.Flow.{listedIn, allAllowed}
-use Rattle.order.specs.Table.{QueryBelow, queryRoles, listRoles}
+use Rattle.program.specs.declared.codes.Atom.{Atom as CodeAtom}
+use Rattle.order.specs.Table.{queryOf, queryRoles, listRoles}
+use Rattle.flow.specs.declared.lists.QueryOf.{QueryOf}
+use Rattle.flow.specs.declared.lists.QueryOf.the-variants as query
 
--- r says whether the pair that stands at a position has the bytes x, y
-unfoldable pub PairAt : List ℕ → ℕ → ℕ → ℕ → Bool → Type 0
-PairAt p at x y r =
-    (R : ℕ) (k : Query) (end : ℕ) (q : Query) → readQuery p R at ≡ got k end
-    → atomByte (q .first) ≡ x → atomByte (q .second) ≡ y → r ≡ sameQuery q k
+-- r says whether the query that stands at a position is the one that stands at another
+unfoldable pub SameAt : List ℕ → ℕ → ℕ → Bool → Type 0
+SameAt p at other r =
+    (R : ℕ) (k q : Query) (end after : ℕ) → readQuery p R at ≡ got k end → readQuery p R other ≡ got q after → r ≡ sameQuery q k
 
--- r says whether the pair of bytes x, y is among the n pairs that stand at a position
-unfoldable pub ListedAt : List ℕ → ℕ → ℕ → ℕ → ℕ → Bool → Type 0
-ListedAt p n at x y r =
-    (R : ℕ) (qs : List Query) (end : ℕ) (q : Query) → readMany (readQuery p R) n at ≡ got qs end
-    → atomByte (q .first) ≡ x → atomByte (q .second) ≡ y → r ≡ listedIn q qs
+-- r says whether the query that stands at a position is among the n queries that stand at another
+unfoldable pub ListedAt : List ℕ → ℕ → ℕ → ℕ → Bool → Type 0
+ListedAt p n at other r =
+    (R : ℕ) (qs : List Query) (q : Query) (end after : ℕ) → readMany (readQuery p R) n at ≡ got qs end → readQuery p R other ≡ got q after
+    → r ≡ listedIn q qs
 
--- r is the set of the roles that a query's atoms name, whose bytes are x and y
-unfoldable pub NamedRoles : ℕ → ℕ → ℕ → Type 0
-NamedRoles x y r = (q : Query) → atomByte (q .first) ≡ x → atomByte (q .second) ≡ y → QueryBelow 64 q → r ≡ queryRoles q
+-- what the code read is the model's query
+pub record QueryNames (o : QueryOf) (q : Query) : Type 0 where
+  pub first : CodeAtom
+  pub second : CodeAtom
+  pub is : o ≡ query.Is first second
+  pub stands : queryOf first second ≡ q
 
--- r is the set of the roles named in the pair that stands at a position
-unfoldable pub PairRolesAt : List ℕ → ℕ → ℕ → Type 0
-PairRolesAt p at r = (R : ℕ) (q : Query) (end : ℕ) → readQuery p R at ≡ got q end → r ≡ queryRoles q
+-- o is the query that stands at a position
+unfoldable pub QueryAt : List ℕ → ℕ → QueryOf → Type 0
+QueryAt p at o = (R : ℕ) (q : Query) (end : ℕ) → readQuery p R at ≡ got q end → QueryNames o q
 
--- r is the set of the roles named in the n pairs that stand at a position
+-- r is the set of the roles named in the query that stands at a position
+unfoldable pub QueryRolesAt : List ℕ → ℕ → ℕ → Type 0
+QueryRolesAt p at r = (R : ℕ) (q : Query) (end : ℕ) → readQuery p R at ≡ got q end → r ≡ queryRoles q
+
+-- r is the set of the roles named in the n queries that stand at a position
 unfoldable pub ListRolesAt : List ℕ → ℕ → ℕ → ℕ → Type 0
 ListRolesAt p n at r =
     (R : ℕ) (qs : List Query) (end : ℕ) → readMany (readQuery p R) n at ≡ got qs end → r ≡ listRoles qs

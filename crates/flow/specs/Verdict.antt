@@ -1,4 +1,4 @@
--- The model's verdict as the code's enum.
+-- What the code's verdict says: nothing against the program, or document 01's number and the place that shows it.
 use mathlib.Core.Path.{_≡_}
 use Prim.Native.Nat.{ℕ}
 use mathlib.Core.List.{List, []}
@@ -10,11 +10,11 @@ use Rattle.model.specs.Flow.{outside, flow}
 use Rattle.flow.specs.declared.verdict.Verdict.{Verdict}
 use Rattle.flow.specs.declared.verdict.Verdict.the-variants.{Fine, Refused}
 
-unfoldable pub verdictAs : Judgement → Verdict
-verdictAs fine = Fine
-verdictAs (refused k place) = Refused k place
+abbrev pub verdictOf : Verdict → Judgement
+verdictOf Fine = fine
+verdictOf (Refused k place) = refused k place
 
 -- r is the flow rules' verdict of the program that was read
 unfoldable pub BodyVerdict : List ℕ → List ℕ → Verdict → Type 0
 BodyVerdict s p r =
-    (x : Stmt) (end : ℕ) → readProgram p (principals s) (roles s) ≡ got x end → r ≡ verdictAs (flow s p outside [] (λ side. []) x)
+    (x : Stmt) (end : ℕ) → readProgram p (principals s) (roles s) ≡ got x end → verdictOf r ≡ flow s p outside [] (λ side. []) x

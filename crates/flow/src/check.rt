@@ -1,91 +1,67 @@
 // The flow rules over the bytes of a program that was read: 15 to 18 at the first statement in reading order, lowest number
-// first. Statement check and transaction check call each other, the remaining depth falling; a flag in what surrounds a
-// statement forbids nesting. Contracts speak of the tree that stands at a position; where none stands, any answer is right.
+// first. Statement check and transaction check call each other, the remaining depth falling; a flag in the context forbids
+// nesting. Contracts speak of the tree that stands at a position; where none stands, any answer is right.
 ghost use mathlib.Core.Path.{_≡_};
+ghost use mathlib.Core.Bool.{true};
 ghost use Prim.Native.Nat.{_<_, _≤_};
 ghost use lib.ListN.{length};
 ghost use Rattle.model.specs.Policy.{Accepted};
-ghost use Rattle.order.specs.Table.{tableWords, Learnt};
-ghost use Rattle.flow.specs.Check.{noTransaction, checkedNumber, Ready, EnteredAt, CheckedAt, CodedAt, AssignAt, UpdateAt, PairAt, BranchesAt};
+ghost use Rattle.order.specs.Table.{tableWords, queryOf, Learnt};
+ghost use Rattle.program.specs.Answer.{reachedBy};
+ghost use Rattle.program.specs.declared.codes.Statement.the-variants.{Block, If, While, Query, Transaction};
+ghost use Rattle.flow.specs.Check.{numbered, Ready, EnteredAt, CheckedAt, CodedAt, AssignAt, UpdateAt, PairAt, BranchAt, BranchesAt, AskedAt};
 use super::context;
+use super::context::Around;
 use super::context::Context;
 use super::judge;
 use super::lists;
-use order::rows;
-use policy::bytes;
-use policy::number;
-use program::limit;
-use walk::labels;
-use walk::positions;
-use walk::writes;
+use super::lists::QueryOf;
+use gathered::labels;
+use gathered::positions;
+use gathered::writes;
+use order::table;
+use policy::rows;
+use program::answer::Answer;
+use program::codes::Atom;
+use program::codes::Statement;
+use program::codes::StatementOf;
+use shared::bytes;
+use shared::limit;
+use shared::number;
 
-// How many principals, roles and variables the program was read under.
-pub struct Sizes {
-    pub principals: u8,
-    pub roles: u8,
-    pub vars: u8,
-}
-
-// What surrounds a statement. Inside a transaction: where its `count` listed pairs stand, the roles that they name, and all
-// the variables and roles that the transaction writes.
-pub struct Around {
-    pub inside: bool,
-    pub list: usize,
-    pub count: u8,
-    pub named: u64,
-    pub variables: u64,
-    pub roles: u64,
-}
-
-// No transaction.
-pub fn outside() -> Around
-    ensures { λ r. ⌜ r ≡ noTransaction ⌝ }
-{
-    Around {
-        inside: false,
-        list: 0,
-        count: 0,
-        named: 0,
-        variables: 0,
-        roles: 0,
-    }
-}
-
-// Nothing against the statement, which ends at a position; or document 01's number and the place that shows it.
-pub enum Checked {
-    Next(usize),
-    Refused(u32, usize),
-}
-
-fn answer(number: u32, at: usize, next: usize) -> Checked
-    ensures { λ r. ⌜ r ≡ checkedNumber number at next ⌝ }
+// The answer of a number at a place, on a statement that ends at a position.
+fn answer(number: u32, at: usize, next: usize) -> Answer
+    ensures { λ r. ⌜ reachedBy r ≡ numbered number at next ⌝ }
 {
     if number == number::ACCEPTED {
-        return Checked::Next(next);
+        return Answer::At(next);
     }
-    Checked::Refused(number, at)
+    Answer::Refused(number, at)
 }
 
 // Context and expression label are at most the variable's label.
 fn check_assign(
-    p: &[u8],
-    table: &[u64; rows::TABLE_WORDS],
-    sizes: Sizes,
+    program: &[u8],
+    table: &[u64; table::TABLE_WORDS],
     context: Context,
     at: usize,
-) -> Checked
+) -> Answer
     requires { ⌜ length (now table) ≡ tableWords ⌝ }
-    ensures { λ r. ⌜ AssignAt (now (p .entry)) (now (table .entry)) sizes context at r ⌝ }
+    ensures { λ r. ⌜ AssignAt (now (program .entry)) (now (table .entry)) context at r ⌝ }
 {
-    let target = positions::byte_at(p, positions::ahead(p, at, 1));
+    let target = bytes::byte_at(program, positions::ahead(program, at, 1));
     let labels = labels::expr_labels(
-        p,
-        sizes.vars,
+        program,
         limit::EXPRESSION_DEPTH,
-        positions::ahead(p, at, 2),
+        positions::ahead(program, at, 2),
     );
     let next = labels.next;
-    let number = judge::assign_number(p, table, context::with_labels(context, labels), target);
+    let number = judge::assign_number(
+        program,
+        table,
+        context::with_labels(context, labels),
+        target,
+    );
     answer(number, at, next)
 }
 
@@ -93,276 +69,351 @@ fn check_assign(
 // queries is at most all that the transaction writes.
 fn check_update(
     policy: &[u8],
-    p: &[u8],
-    table: &[u64; rows::TABLE_WORDS],
-    around: Around,
+    program: &[u8],
+    table: &[u64; table::TABLE_WORDS],
     context: Context,
     at: usize,
-) -> Checked
+) -> Answer
     requires { ⌜ (Accepted (now policy)) × (length (now table) ≡ tableWords) ⌝ }
-    ensures { λ r. ⌜ UpdateAt (now (policy .entry)) (now (p .entry)) (now (table .entry)) around context at r ⌝ }
+    ensures { λ r. ⌜ UpdateAt (now (policy .entry)) (now (program .entry)) (now (table .entry)) context at r ⌝ }
 {
+    let around = context.around;
     if around.inside {
-        let count = positions::byte_at(p, positions::ahead(p, at, 1));
-        if lists::all_allowed(policy, p, count, positions::ahead(p, at, 2)) {
+        let count = bytes::byte_at(program, positions::ahead(program, at, 1));
+        if lists::all_allowed(policy, program, count, positions::ahead(program, at, 2)) {
             let joined = context::with_named(context, around.named);
-            let number = judge::write_number(p, table, joined, around.variables, around.roles);
+            let number = judge::write_number(
+                program,
+                table,
+                joined,
+                around.variables,
+                around.roles,
+            );
             return answer(
                 number,
                 at,
-                positions::after_list(p, at, positions::MUTATION_BYTES),
+                positions::after_list(program, at, positions::MUTATION_BYTES),
             );
         }
-        return Checked::Refused(number::FLOW_GRANT, at);
+        return Answer::Refused(number::FLOW_GRANT, at);
     }
-    Checked::Refused(number::FLOW_PLACE, at)
+    Answer::Refused(number::FLOW_TRANSACTION, at)
 }
 
 // What surrounds the body of the transaction whose code stands at `at`.
-fn entered(p: &[u8], sizes: Sizes, depth: u8, at: usize) -> Around
-    ensures { λ r. ⌜ EnteredAt (now (p .entry)) sizes depth at r ⌝ }
+fn entered(program: &[u8], depth: u8, at: usize) -> Around
+    ensures { λ r. ⌜ EnteredAt (now (program .entry)) depth at r ⌝ }
 {
-    let count = positions::byte_at(p, positions::ahead(p, at, 1));
-    let list = positions::ahead(p, at, 2);
-    let body = positions::after_list(p, at, positions::QUERY_BYTES);
-    let written = writes::stmt_writes(p, sizes.principals, sizes.roles, sizes.vars, depth, body);
+    let count = bytes::byte_at(program, positions::ahead(program, at, 1));
+    let list = positions::ahead(program, at, 2);
+    let body = positions::after_list(program, at, positions::QUERY_BYTES);
+    let written = writes::stmt_writes(program, depth, body);
     Around {
         inside: true,
         list,
         count,
-        named: lists::list_roles(p, count, list),
+        named: lists::list_roles(program, count, list),
         variables: written.variables,
         roles: written.roles,
     }
 }
 
 // The table with one more query known.
-fn learnt(table: &[u64; rows::TABLE_WORDS], roles: u8, first: u8, second: u8) -> [u64; 579]
+fn learnt(
+    table: &[u64; table::TABLE_WORDS],
+    roles: u8,
+    first: Atom,
+    second: Atom,
+) -> [u64; table::TABLE_WORDS]
     requires { ⌜ (length (now table) ≡ tableWords) × (roles ≤ 64) ⌝ }
     ensures long { λ r. ⌜ length r ≡ tableWords ⌝ }
-    ensures known { λ r. ⌜ Learnt roles (now (table .entry)) r first second ⌝ }
+    ensures known { λ r. ⌜ Learnt roles (now (table .entry)) r (queryOf first second) ⌝ }
 {
     let mut known = *table;
-    order::learn::learn(&mut known, bytes::wide(roles) as usize, first, second);
+    order::learn::learn(&mut known, roles, first, second);
     known
 }
 
-// A byte that is no code is taken for a skip.
+// Where no statement stands any answer is right.
 pub fn check_stmt(
     policy: &[u8],
-    p: &[u8],
-    table: &[u64; rows::TABLE_WORDS],
-    sizes: Sizes,
-    around: Around,
+    program: &[u8],
+    table: &[u64; table::TABLE_WORDS],
     context: Context,
     depth: u8,
     at: usize,
-) -> Checked
-    requires { ⌜ Ready (now policy) (now table) (sizes .roles) ⌝ }
-    ensures { λ r. ⌜ CheckedAt (now (policy .entry)) (now (p .entry)) (now (table .entry)) sizes around context depth at r ⌝ }
+) -> Answer
+    requires { ⌜ Ready (now policy) (now table) ⌝ }
+    ensures { λ r. ⌜ CheckedAt (now (policy .entry)) (now (program .entry)) (now (table .entry)) context depth at r ⌝ }
 {
     if depth == 0 {
-        return Checked::Next(at);
+        return Answer::Refused(number::PROGRAM_DEPTH, at);
     }
-    match positions::byte_at(p, at) {
-        1 => check_assign(p, table, sizes, context, at),
-        2 => check_block(policy, p, table, sizes, around, context, depth, at),
-        3 => check_if(policy, p, table, sizes, around, context, depth, at),
-        4 => check_while(policy, p, table, sizes, around, context, depth, at),
-        5 => check_query(policy, p, table, sizes, around, context, depth, at),
-        6 => check_update(policy, p, table, around, context, at),
-        7 => check_transaction(policy, p, table, sizes, around, context, depth, at),
-        _ => Checked::Next(positions::ahead(p, at, 1)),
+    let StatementOf::Is(code) = positions::statement_at(program, at) else {
+        return Answer::Refused(number::PROGRAM_CODE, at);
+    };
+    match code {
+        Statement::Skip => Answer::At(positions::ahead(program, at, 1)),
+        Statement::Assign => check_assign(program, table, context, at),
+        Statement::Block => check_block(policy, program, table, context, depth, at),
+        Statement::If => check_if(policy, program, table, context, depth, at),
+        Statement::While => check_while(policy, program, table, context, depth, at),
+        Statement::Query => check_query(policy, program, table, context, depth, at),
+        Statement::Update => check_update(policy, program, table, context, at),
+        Statement::Transaction => check_transaction(policy, program, table, context, depth, at),
     }
 }
 
 fn check_block(
     policy: &[u8],
-    p: &[u8],
-    table: &[u64; rows::TABLE_WORDS],
-    sizes: Sizes,
-    around: Around,
+    program: &[u8],
+    table: &[u64; table::TABLE_WORDS],
     context: Context,
     depth: u8,
     at: usize,
-) -> Checked
-    requires { ⌜ (Ready (now policy) (now table) (sizes .roles)) × (0 < depth) ⌝ }
-    ensures { λ r. ⌜ CodedAt 2 (now (policy .entry)) (now (p .entry)) (now (table .entry)) sizes around context depth at r ⌝ }
+) -> Answer
+    requires { ⌜ (Ready (now policy) (now table)) × (0 < depth) ⌝ }
+    ensures { λ r. ⌜ CodedAt Block (now (policy .entry)) (now (program .entry)) (now (table .entry)) context depth at r ⌝ }
 {
     let inner = depth - 1;
-    let mut left = positions::byte_at(p, positions::ahead(p, at, 1));
-    let mut next = positions::ahead(p, at, 2);
+    let mut left = bytes::byte_at(program, positions::ahead(program, at, 1));
+    let mut next = positions::ahead(program, at, 2);
     while 0 < left {
-        let one = check_stmt(policy, p, table, sizes, around, context, inner, next);
-        let Checked::Next(end) = one else {
+        let one = check_stmt(policy, program, table, context, inner, next);
+        let Answer::At(end) = one else {
             return one;
         };
         next = end;
         left -= 1;
     }
-    Checked::Next(next)
+    Answer::At(next)
 }
 
 // Two statements, one after the other.
 fn check_pair(
     policy: &[u8],
-    p: &[u8],
-    table: &[u64; rows::TABLE_WORDS],
-    sizes: Sizes,
-    around: Around,
+    program: &[u8],
+    table: &[u64; table::TABLE_WORDS],
     context: Context,
     depth: u8,
     at: usize,
-) -> Checked
-    requires { ⌜ Ready (now policy) (now table) (sizes .roles) ⌝ }
-    ensures { λ r. ⌜ PairAt (now (policy .entry)) (now (p .entry)) (now (table .entry)) sizes around context depth at r ⌝ }
+) -> Answer
+    requires { ⌜ Ready (now policy) (now table) ⌝ }
+    ensures { λ r. ⌜ PairAt (now (policy .entry)) (now (program .entry)) (now (table .entry)) context depth at r ⌝ }
 {
-    let one = check_stmt(policy, p, table, sizes, around, context, depth, at);
-    let Checked::Next(mid) = one else {
+    let one = check_stmt(policy, program, table, context, depth, at);
+    let Answer::At(mid) = one else {
         return one;
     };
-    check_stmt(policy, p, table, sizes, around, context, depth, mid)
+    check_stmt(policy, program, table, context, depth, mid)
 }
 
 // The branches are checked with the expression's label joined to the context.
 fn check_if(
     policy: &[u8],
-    p: &[u8],
-    table: &[u64; rows::TABLE_WORDS],
-    sizes: Sizes,
-    around: Around,
+    program: &[u8],
+    table: &[u64; table::TABLE_WORDS],
     context: Context,
     depth: u8,
     at: usize,
-) -> Checked
-    requires { ⌜ (Ready (now policy) (now table) (sizes .roles)) × (0 < depth) ⌝ }
-    ensures { λ r. ⌜ CodedAt 3 (now (policy .entry)) (now (p .entry)) (now (table .entry)) sizes around context depth at r ⌝ }
+) -> Answer
+    requires { ⌜ (Ready (now policy) (now table)) × (0 < depth) ⌝ }
+    ensures { λ r. ⌜ CodedAt If (now (policy .entry)) (now (program .entry)) (now (table .entry)) context depth at r ⌝ }
 {
     let labels = labels::expr_labels(
-        p,
-        sizes.vars,
+        program,
         limit::EXPRESSION_DEPTH,
-        positions::ahead(p, at, 1),
+        positions::ahead(program, at, 1),
     );
     let start = labels.next;
     let inner = context::with_labels(context, labels);
-    check_pair(policy, p, table, sizes, around, inner, depth - 1, start)
+    check_pair(policy, program, table, inner, depth - 1, start)
 }
 
 // So is the body.
 fn check_while(
     policy: &[u8],
-    p: &[u8],
-    table: &[u64; rows::TABLE_WORDS],
-    sizes: Sizes,
-    around: Around,
+    program: &[u8],
+    table: &[u64; table::TABLE_WORDS],
     context: Context,
     depth: u8,
     at: usize,
-) -> Checked
-    requires { ⌜ (Ready (now policy) (now table) (sizes .roles)) × (0 < depth) ⌝ }
-    ensures { λ r. ⌜ CodedAt 4 (now (policy .entry)) (now (p .entry)) (now (table .entry)) sizes around context depth at r ⌝ }
+) -> Answer
+    requires { ⌜ (Ready (now policy) (now table)) × (0 < depth) ⌝ }
+    ensures { λ r. ⌜ CodedAt While (now (policy .entry)) (now (program .entry)) (now (table .entry)) context depth at r ⌝ }
 {
     let labels = labels::expr_labels(
-        p,
-        sizes.vars,
+        program,
         limit::EXPRESSION_DEPTH,
-        positions::ahead(p, at, 1),
+        positions::ahead(program, at, 1),
     );
     let start = labels.next;
     let inner = context::with_labels(context, labels);
-    check_stmt(policy, p, table, sizes, around, inner, depth - 1, start)
+    check_stmt(policy, program, table, inner, depth - 1, start)
 }
 
-// Only in a transaction whose list holds that pair. Both branches have the query's label joined to the context.
+// Only in a transaction whose list holds that pair.
 fn check_query(
     policy: &[u8],
-    p: &[u8],
-    table: &[u64; rows::TABLE_WORDS],
-    sizes: Sizes,
-    around: Around,
+    program: &[u8],
+    table: &[u64; table::TABLE_WORDS],
     context: Context,
     depth: u8,
     at: usize,
-) -> Checked
-    requires { ⌜ (Ready (now policy) (now table) (sizes .roles)) × (0 < depth) ⌝ }
-    ensures { λ r. ⌜ CodedAt 5 (now (policy .entry)) (now (p .entry)) (now (table .entry)) sizes around context depth at r ⌝ }
+) -> Answer
+    requires { ⌜ (Ready (now policy) (now table)) × (0 < depth) ⌝ }
+    ensures { λ r. ⌜ CodedAt Query (now (policy .entry)) (now (program .entry)) (now (table .entry)) context depth at r ⌝ }
 {
+    let around = context.around;
     if around.inside {
-        let first = positions::byte_at(p, positions::ahead(p, at, 1));
-        let second = positions::byte_at(p, positions::ahead(p, at, 2));
-        if lists::is_listed(p, around.count, around.list, first, second) {
-            let inner = context::with_named(context, lists::named_roles(first, second));
-            let start = positions::ahead(p, at, 3);
-            return check_branches(
-                policy,
-                p,
-                table,
-                sizes,
-                around,
-                inner,
-                depth - 1,
-                start,
-                first,
-                second,
-            );
+        let asked = positions::ahead(program, at, 1);
+        if lists::is_listed(program, around.count, around.list, asked) {
+            return check_asked(policy, program, table, context, depth - 1, at);
         }
-        return Checked::Refused(number::FLOW_PLACE, at);
+        return Answer::Refused(number::FLOW_TRANSACTION, at);
     }
-    Checked::Refused(number::FLOW_PLACE, at)
+    Answer::Refused(number::FLOW_TRANSACTION, at)
+}
+
+// Both branches of the query whose code stands at `at` have its label joined to the context.
+fn check_asked(
+    policy: &[u8],
+    program: &[u8],
+    table: &[u64; table::TABLE_WORDS],
+    context: Context,
+    depth: u8,
+    at: usize,
+) -> Answer
+    requires { ⌜ Ready (now policy) (now table) ⌝ }
+    ensures { λ r. ⌜ AskedAt (now (policy .entry)) (now (program .entry)) (now (table .entry)) context depth at r ⌝ }
+{
+    let QueryOf::Is(first, second) = lists::query_at(program, positions::ahead(program, at, 1))
+    else {
+        return Answer::Refused(number::PROGRAM_CODE, at);
+    };
+    let inner = context::with_named(context, lists::named_roles(first, second));
+    let start = positions::ahead(program, at, 3);
+    check_branches(policy, program, table, inner, depth, start, first, second)
 }
 
 // The first branch also knows the query, the second does not.
 fn check_branches(
     policy: &[u8],
-    p: &[u8],
-    table: &[u64; rows::TABLE_WORDS],
-    sizes: Sizes,
-    around: Around,
+    program: &[u8],
+    table: &[u64; table::TABLE_WORDS],
     context: Context,
     depth: u8,
     at: usize,
-    first: u8,
-    second: u8,
-) -> Checked
-    requires { ⌜ Ready (now policy) (now table) (sizes .roles) ⌝ }
-    ensures { λ r. ⌜ BranchesAt (now (policy .entry)) (now (p .entry)) (now (table .entry)) sizes around context depth at first second r ⌝ }
+    first: Atom,
+    second: Atom,
+) -> Answer
+    requires { ⌜ Ready (now policy) (now table) ⌝ }
+    ensures { λ r. ⌜ BranchesAt (now (policy .entry)) (now (program .entry)) (now (table .entry)) context depth at (queryOf first second) r ⌝ }
 {
-    let known = learnt(table, sizes.roles, first, second);
-    let one = check_stmt(policy, p, &known, sizes, around, context, depth, at);
-    let Checked::Next(other) = one else {
+    let one = check_branch(
+        policy,
+        program,
+        table,
+        context,
+        depth,
+        at,
+        first,
+        second,
+        true,
+    );
+    let Answer::At(other) = one else {
         return one;
     };
-    check_stmt(policy, p, table, sizes, around, context, depth, other)
+    check_branch(
+        policy,
+        program,
+        table,
+        context,
+        depth,
+        other,
+        first,
+        second,
+        false,
+    )
+}
+
+// A branch of a query, which it knows or not.
+fn check_branch(
+    policy: &[u8],
+    program: &[u8],
+    table: &[u64; table::TABLE_WORDS],
+    context: Context,
+    depth: u8,
+    at: usize,
+    first: Atom,
+    second: Atom,
+    knows: bool,
+) -> Answer
+    requires { ⌜ Ready (now policy) (now table) ⌝ }
+    ensures { λ r. ⌜ BranchAt (now (policy .entry)) (now (program .entry)) (now (table .entry)) context depth at (queryOf first second) knows r ⌝ }
+{
+    if knows {
+        return check_known(policy, program, table, context, depth, at, first, second);
+    }
+    check_stmt(policy, program, table, context, depth, at)
+}
+
+// A statement that also knows a query. One that the table knows already needs no table of its own: so however deep queries
+// nest, no more tables are held at once than a transaction lists queries.
+fn check_known(
+    policy: &[u8],
+    program: &[u8],
+    table: &[u64; table::TABLE_WORDS],
+    context: Context,
+    depth: u8,
+    at: usize,
+    first: Atom,
+    second: Atom,
+) -> Answer
+    requires { ⌜ Ready (now policy) (now table) ⌝ }
+    ensures { λ r. ⌜ BranchAt (now (policy .entry)) (now (program .entry)) (now (table .entry)) context depth at (queryOf first second) true r ⌝ }
+{
+    if order::learn::is_known(table, first, second) {
+        return check_stmt(policy, program, table, context, depth, at);
+    }
+    check_learnt(policy, program, table, context, depth, at, first, second)
+}
+
+fn check_learnt(
+    policy: &[u8],
+    program: &[u8],
+    table: &[u64; table::TABLE_WORDS],
+    context: Context,
+    depth: u8,
+    at: usize,
+    first: Atom,
+    second: Atom,
+) -> Answer
+    requires { ⌜ Ready (now policy) (now table) ⌝ }
+    ensures { λ r. ⌜ BranchAt (now (policy .entry)) (now (program .entry)) (now (table .entry)) context depth at (queryOf first second) true r ⌝ }
+{
+    let known = learnt(table, rows::roles_of(policy), first, second);
+    check_stmt(policy, program, &known, context, depth, at)
 }
 
 // A transaction holds no transaction.
 fn check_transaction(
     policy: &[u8],
-    p: &[u8],
-    table: &[u64; rows::TABLE_WORDS],
-    sizes: Sizes,
-    around: Around,
+    program: &[u8],
+    table: &[u64; table::TABLE_WORDS],
     context: Context,
     depth: u8,
     at: usize,
-) -> Checked
-    requires { ⌜ (Ready (now policy) (now table) (sizes .roles)) × (0 < depth) ⌝ }
-    ensures { λ r. ⌜ CodedAt 7 (now (policy .entry)) (now (p .entry)) (now (table .entry)) sizes around context depth at r ⌝ }
+) -> Answer
+    requires { ⌜ (Ready (now policy) (now table)) × (0 < depth) ⌝ }
+    ensures { λ r. ⌜ CodedAt Transaction (now (policy .entry)) (now (program .entry)) (now (table .entry)) context depth at r ⌝ }
 {
+    let around = context.around;
     if around.inside {
-        return Checked::Refused(number::FLOW_PLACE, at);
+        return Answer::Refused(number::FLOW_TRANSACTION, at);
     }
     let inner = depth - 1;
-    let body = positions::after_list(p, at, positions::QUERY_BYTES);
-    check_stmt(
-        policy,
-        p,
-        table,
-        sizes,
-        entered(p, sizes, inner, at),
-        context,
-        inner,
-        body,
-    )
+    let body = positions::after_list(program, at, positions::QUERY_BYTES);
+    let inside = context::within(context, entered(program, inner, at));
+    check_stmt(policy, program, table, inside, inner, body)
 }

@@ -1,25 +1,76 @@
-// The context on both sides as words: a join of labels is the roles in it, and the roles whose viewers (on the trust side,
-// trusters) are in it. Everyone adds nothing to a join.
+// What surrounds a statement on the check's way, as one value: the transaction around it, with the flag that forbids nesting,
+// and the context of each side. A context is a join of labels, carried as two words.
 ghost use mathlib.Core.Path.{_≡_};
-ghost use Rattle.flow.specs.Context.{noContext, withLabels, withNamed};
-use walk::labels::Labels;
+ghost use Rattle.order.specs.Table.{sideOf};
+ghost use Rattle.flow.specs.Context.{noTransaction, noLabels, joinWith, noContext, withLabels, withNamed, within, joinOf};
+use gathered::labels::Labels;
 
-pub struct Context {
-    pub reading: u64,
-    pub viewers: u64,
-    pub trust: u64,
-    pub trusters: u64,
+// Inside a transaction: where its `count` listed queries stand, the roles that they name, and all the variables and roles
+// that the transaction writes.
+pub struct Around {
+    pub inside: bool,
+    pub list: usize,
+    pub count: u8,
+    pub named: u64,
+    pub variables: u64,
+    pub roles: u64,
 }
 
-// The empty join on each side, as at the start.
-pub fn empty() -> Context
+// A join of labels on one side: the roles in it, and the roles whose viewers (on the trust side, trusters) are in it.
+// Everyone adds nothing to a join.
+pub struct Join {
+    pub roles: u64,
+    pub watchers: u64,
+}
+
+pub struct Context {
+    pub around: Around,
+    pub reading: Join,
+    pub trust: Join,
+}
+
+// No transaction.
+fn no_transaction() -> Around
+    ensures { λ r. ⌜ r ≡ noTransaction ⌝ }
+{
+    Around {
+        inside: false,
+        list: 0,
+        count: 0,
+        named: 0,
+        variables: 0,
+        roles: 0,
+    }
+}
+
+// The empty join.
+fn no_labels() -> Join
+    ensures { λ r. ⌜ r ≡ noLabels ⌝ }
+{
+    Join {
+        roles: 0,
+        watchers: 0,
+    }
+}
+
+// With more roles, and with the watchers of more roles.
+fn join_with(join: Join, roles: u64, watchers: u64) -> Join
+    ensures { λ r. ⌜ r ≡ joinWith join roles watchers ⌝ }
+{
+    Join {
+        roles: roles | join.roles,
+        watchers: watchers | join.watchers,
+    }
+}
+
+// At the start there is no transaction, and the context is empty on each side.
+pub fn start() -> Context
     ensures { λ r. ⌜ r ≡ noContext ⌝ }
 {
     Context {
-        reading: 0,
-        viewers: 0,
-        trust: 0,
-        trusters: 0,
+        around: no_transaction(),
+        reading: no_labels(),
+        trust: no_labels(),
     }
 }
 
@@ -27,11 +78,13 @@ pub fn empty() -> Context
 pub fn with_labels(context: Context, labels: Labels) -> Context
     ensures { λ r. ⌜ r ≡ withLabels context labels ⌝ }
 {
+    let around = context.around;
+    let reading = context.reading;
+    let trust = context.trust;
     Context {
-        reading: context.reading | labels.reading,
-        viewers: context.viewers,
-        trust: context.trust | labels.trust,
-        trusters: context.trusters,
+        around,
+        reading: join_with(reading, labels.reading, 0),
+        trust: join_with(trust, labels.trust, 0),
     }
 }
 
@@ -39,10 +92,35 @@ pub fn with_labels(context: Context, labels: Labels) -> Context
 pub fn with_named(context: Context, named: u64) -> Context
     ensures { λ r. ⌜ r ≡ withNamed context named ⌝ }
 {
+    let around = context.around;
+    let reading = context.reading;
+    let trust = context.trust;
     Context {
-        reading: context.reading,
-        viewers: context.viewers | named,
-        trust: context.trust,
-        trusters: context.trusters | named,
+        around,
+        reading: join_with(reading, 0, named),
+        trust: join_with(trust, 0, named),
     }
+}
+
+// Within a transaction.
+pub fn within(context: Context, around: Around) -> Context
+    ensures { λ r. ⌜ r ≡ within context around ⌝ }
+{
+    let reading = context.reading;
+    let trust = context.trust;
+    Context {
+        around,
+        reading,
+        trust,
+    }
+}
+
+// The context's join on a side.
+pub fn join_of(context: Context, trust: bool) -> Join
+    ensures { λ r. ⌜ r ≡ joinOf (sideOf trust) context ⌝ }
+{
+    if trust {
+        return context.trust;
+    }
+    context.reading
 }

@@ -1,64 +1,91 @@
-// The lists of a transaction and of an update: which pairs are listed, which roles they name, whether the policy file
+// The lists of a transaction and of an update: which queries are listed, which roles they name, whether the policy file
 // allows what is added. Where a list was refused any answer is right, so each function takes every position.
+ghost use mathlib.Core.Path.{_≡_};
 ghost use Rattle.model.specs.Policy.{Accepted};
-ghost use Rattle.flow.specs.Lists.{PairAt, ListedAt, NamedRoles, PairRolesAt, ListRolesAt, HoldsRight, TakesRight, OneAllowedAt, AllowedAt};
-use policy::bytes;
+ghost use Rattle.order.specs.Table.{queryOf, queryRoles};
+ghost use Rattle.flow.specs.Lists.{SameAt, ListedAt, QueryAt, QueryRolesAt, ListRolesAt, HoldsRight, TakesRight, OneAllowedAt, AllowedAt};
+use gathered::positions;
+use order::table;
 use policy::rows;
-use walk::positions;
+use program::codes::Atom;
+use program::codes::AtomOf;
+use program::codes::Kind;
+use program::codes::KindOf;
+use shared::bytes;
 
-// Whether the pair that stands at `at` has these bytes.
-fn is_pair(p: &[u8], at: usize, first: u8, second: u8) -> bool
-    ensures { λ r. ⌜ PairAt (now (p .entry)) at first second r ⌝ }
+// Whether the query that stands at `at` is the one that stands at `other`: both bytes are the same.
+fn is_same(program: &[u8], at: usize, other: usize) -> bool
+    ensures { λ r. ⌜ SameAt (now (program .entry)) at other r ⌝ }
 {
-    if first != positions::byte_at(p, at) {
+    if bytes::byte_at(program, other) != bytes::byte_at(program, at) {
         return false;
     }
-    second == positions::byte_at(p, positions::ahead(p, at, 1))
+    bytes::byte_at(program, positions::ahead(program, other, 1))
+        == bytes::byte_at(program, positions::ahead(program, at, 1))
 }
 
-// Whether a pair is among the n pairs that stand at `at`.
-pub fn is_listed(p: &[u8], n: u8, at: usize, first: u8, second: u8) -> bool
-    ensures { λ r. ⌜ ListedAt (now (p .entry)) n at first second r ⌝ }
+// Whether the query that stands at `other` is among the n queries that stand at `at`.
+pub fn is_listed(program: &[u8], n: u8, at: usize, other: usize) -> bool
+    ensures { λ r. ⌜ ListedAt (now (program .entry)) n at other r ⌝ }
 {
     let mut left = n;
     let mut here = at;
     while 0 < left {
-        if is_pair(p, here, first, second) {
+        if is_same(program, here, other) {
             return true;
         }
-        here = positions::ahead(p, here, positions::QUERY_BYTES);
+        here = positions::ahead(program, here, positions::QUERY_BYTES);
         left -= 1;
     }
     false
 }
 
+// The atoms of a query, or none where one of its bytes is no atom.
+pub enum QueryOf {
+    Is(Atom, Atom),
+    No,
+}
+
+// The query that stands at `at`.
+pub fn query_at(program: &[u8], at: usize) -> QueryOf
+    ensures { λ r. ⌜ QueryAt (now (program .entry)) at r ⌝ }
+{
+    let AtomOf::Is(first) = positions::atom_at(program, at) else {
+        return QueryOf::No;
+    };
+    let AtomOf::Is(second) = positions::atom_at(program, positions::ahead(program, at, 1)) else {
+        return QueryOf::No;
+    };
+    QueryOf::Is(first, second)
+}
+
 // The roles that the two atoms of a query name.
-pub fn named_roles(first: u8, second: u8) -> u64
-    ensures { λ r. ⌜ NamedRoles first second r ⌝ }
+pub fn named_roles(first: Atom, second: Atom) -> u64
+    ensures { λ r. ⌜ r ≡ queryRoles (queryOf first second) ⌝ }
 {
-    order::rows::named(first) | order::rows::named(second)
+    table::named(first) | table::named(second)
 }
 
-// The roles named in the pair that stands at `at`.
-fn pair_roles(p: &[u8], at: usize) -> u64
-    ensures { λ r. ⌜ PairRolesAt (now (p .entry)) at r ⌝ }
+// The roles named in the query that stands at `at`.
+fn query_roles(program: &[u8], at: usize) -> u64
+    ensures { λ r. ⌜ QueryRolesAt (now (program .entry)) at r ⌝ }
 {
-    named_roles(
-        positions::byte_at(p, at),
-        positions::byte_at(p, positions::ahead(p, at, 1)),
-    )
+    let QueryOf::Is(first, second) = query_at(program, at) else {
+        return 0;
+    };
+    named_roles(first, second)
 }
 
-// The roles named in the n pairs that stand at `at`.
-pub fn list_roles(p: &[u8], n: u8, at: usize) -> u64
-    ensures { λ r. ⌜ ListRolesAt (now (p .entry)) n at r ⌝ }
+// The roles named in the n queries that stand at `at`.
+pub fn list_roles(program: &[u8], n: u8, at: usize) -> u64
+    ensures { λ r. ⌜ ListRolesAt (now (program .entry)) n at r ⌝ }
 {
     let mut found: u64 = 0;
     let mut unread = n;
     let mut here = at;
     while 0 < unread {
-        found = found | pair_roles(p, here);
-        here = positions::ahead(p, here, positions::QUERY_BYTES);
+        found = found | query_roles(program, here);
+        here = positions::ahead(program, here, positions::QUERY_BYTES);
         unread -= 1;
     }
     found
@@ -69,7 +96,7 @@ fn may_hold(policy: &[u8], role: u8, principal: u8) -> bool
     requires { ⌜ Accepted (now policy) ⌝ }
     ensures { λ r. ⌜ HoldsRight (now (policy .entry)) role principal r ⌝ }
 {
-    if policy[6] <= role {
+    if rows::roles_of(policy) <= role {
         return false;
     }
     rows::may_hold(
@@ -84,10 +111,11 @@ fn may_take(policy: &[u8], role: u8, other: u8) -> bool
     requires { ⌜ Accepted (now policy) ⌝ }
     ensures { λ r. ⌜ TakesRight (now (policy .entry)) role other r ⌝ }
 {
-    if policy[6] <= role {
+    let roles = rows::roles_of(policy);
+    if roles <= role {
         return false;
     }
-    if policy[6] <= other {
+    if roles <= other {
         return false;
     }
     rows::may_take(
@@ -98,31 +126,35 @@ fn may_take(policy: &[u8], role: u8, other: u8) -> bool
 }
 
 // Whether the policy file allows the mutation that stands at `at`: kind, role, operand. A deletion is always allowed.
-fn is_allowed(policy: &[u8], p: &[u8], at: usize) -> bool
+fn is_allowed(policy: &[u8], program: &[u8], at: usize) -> bool
     requires { ⌜ Accepted (now policy) ⌝ }
-    ensures { λ r. ⌜ OneAllowedAt (now (policy .entry)) (now (p .entry)) at r ⌝ }
+    ensures { λ r. ⌜ OneAllowedAt (now (policy .entry)) (now (program .entry)) at r ⌝ }
 {
-    let role = positions::byte_at(p, positions::ahead(p, at, 1));
-    let operand = positions::byte_at(p, positions::ahead(p, at, 2));
-    match positions::byte_at(p, at) {
-        0 => may_hold(policy, role, operand),
-        2 => may_take(policy, role, operand),
-        _ => true,
+    let KindOf::Is(kind) = positions::kind_at(program, at) else {
+        return false;
+    };
+    let role = bytes::byte_at(program, positions::ahead(program, at, 1));
+    let operand = bytes::byte_at(program, positions::ahead(program, at, 2));
+    match kind {
+        Kind::AddMember => may_hold(policy, role, operand),
+        Kind::DeleteMember => true,
+        Kind::AddTaken => may_take(policy, role, operand),
+        Kind::DeleteTaken => true,
     }
 }
 
 // Whether the policy file allows each of the n mutations that stand at `at`.
-pub fn all_allowed(policy: &[u8], p: &[u8], n: u8, at: usize) -> bool
+pub fn all_allowed(policy: &[u8], program: &[u8], n: u8, at: usize) -> bool
     requires { ⌜ Accepted (now policy) ⌝ }
-    ensures { λ r. ⌜ AllowedAt (now (policy .entry)) (now (p .entry)) n at r ⌝ }
+    ensures { λ r. ⌜ AllowedAt (now (policy .entry)) (now (program .entry)) n at r ⌝ }
 {
     let mut left = n;
     let mut here = at;
     while 0 < left {
-        if !is_allowed(policy, p, here) {
+        if !is_allowed(policy, program, here) {
             return false;
         }
-        here = positions::ahead(p, here, positions::MUTATION_BYTES);
+        here = positions::ahead(program, here, positions::MUTATION_BYTES);
         left -= 1;
     }
     true

@@ -4,17 +4,15 @@ ghost use mathlib.Core.Path.{_≡_};
 ghost use Rattle.model.specs.Policy.{Accepted, principals, roles};
 ghost use Rattle.model.specs.Program.{readProgram};
 ghost use Rattle.model.specs.Flow.{bodyVerdict, programVerdict};
-ghost use Rattle.flow.specs.Verdict.{verdictAs, BodyVerdict};
+ghost use Rattle.flow.specs.Verdict.{verdictOf, BodyVerdict};
 use super::check;
-use super::check::Checked;
-use super::check::Sizes;
 use super::context;
-use order::rows;
-use policy::bytes;
-use policy::number;
-use program::answer::Read;
-use program::limit;
-use walk::positions;
+use order::table;
+use policy::rows;
+use program::answer::Answer;
+use program::layout;
+use shared::limit;
+use shared::number;
 
 // Nothing against the program; or document 01's number and the place in the program that shows it, 0 for the policy's.
 pub enum Verdict {
@@ -23,57 +21,49 @@ pub enum Verdict {
 }
 
 // The flow rules on a program that was read: no transaction around it, nothing known, empty contexts.
-fn body_verdict(policy: &[u8], p: &[u8]) -> Verdict
+fn body_verdict(policy: &[u8], program: &[u8]) -> Verdict
     requires { ⌜ Accepted (now policy) ⌝ }
-    ensures { λ r. ⌜ BodyVerdict (now (policy .entry)) (now (p .entry)) r ⌝ }
+    ensures { λ r. ⌜ BodyVerdict (now (policy .entry)) (now (program .entry)) r ⌝ }
 {
-    let mut table = [0u64; rows::TABLE_WORDS];
+    let mut table = [0u64; table::TABLE_WORDS];
     order::base::base_table(policy, &mut table);
-    let vars = positions::byte_at(p, 5);
-    let sizes = Sizes {
-        principals: positions::byte_at(policy, 5),
-        roles: positions::byte_at(policy, 6),
-        vars,
-    };
-    let start = 6 + 2 * (bytes::wide(vars) as usize);
+    let start = layout::body_at(layout::variables_of(program));
     let checked = check::check_stmt(
         policy,
-        p,
+        program,
         &table,
-        sizes,
-        check::outside(),
-        context::empty(),
+        context::start(),
         limit::STATEMENT_DEPTH,
         start,
     );
     match checked {
-        Checked::Next(_) => Verdict::Fine,
-        Checked::Refused(k, place) => Verdict::Refused(k, place),
+        Answer::At(_) => Verdict::Fine,
+        Answer::Refused(k, place) => Verdict::Refused(k, place),
     }
 }
 
 // The program is read, then checked.
-fn read_verdict(policy: &[u8], p: &[u8]) -> Verdict
+fn read_verdict(policy: &[u8], program: &[u8]) -> Verdict
     requires { ⌜ Accepted (now policy) ⌝ }
-    ensures { λ r. ⌜ r ≡ verdictAs (bodyVerdict (now (policy .entry)) (now (p .entry)) (readProgram (now (p .entry)) (principals (now (policy .entry))) (roles (now (policy .entry))))) ⌝ }
+    ensures { λ r. ⌜ verdictOf r ≡ bodyVerdict (now (policy .entry)) (now (program .entry)) (readProgram (now (program .entry)) (principals (now (policy .entry))) (roles (now (policy .entry)))) ⌝ }
 {
-    let read = program::head::read_program(
-        p,
-        positions::byte_at(policy, 5),
-        positions::byte_at(policy, 6),
+    let read = program::file::read_program(
+        program,
+        rows::principals_of(policy),
+        rows::roles_of(policy),
     );
     match read {
-        Read::At(_) => body_verdict(policy, p),
-        Read::Bad(k, place) => Verdict::Refused(k, place),
+        Answer::At(_) => body_verdict(policy, program),
+        Answer::Refused(number, place) => Verdict::Refused(number, place),
     }
 }
 
-pub fn program_verdict(policy: &[u8], p: &[u8]) -> Verdict
-    ensures { λ r. ⌜ r ≡ verdictAs (programVerdict (now (policy .entry)) (now (p .entry))) ⌝ }
+pub fn program_verdict(policy: &[u8], program: &[u8]) -> Verdict
+    ensures { λ r. ⌜ verdictOf r ≡ programVerdict (now (policy .entry)) (now (program .entry)) ⌝ }
 {
     let number = policy::check::policy_number(policy);
     if number == number::ACCEPTED {
-        return read_verdict(policy, p);
+        return read_verdict(policy, program);
     }
     Verdict::Refused(number, 0)
 }

@@ -8,7 +8,7 @@ ghost use Rattle.model.specs.Meaning.{answer, meaningOf};
 ghost use Rattle.model.specs.Flow.{programVerdict, transactionPart};
 ghost use Rattle.model.specs.Calls.{located, placeAnswer, body, transactionAnswer, partBytes};
 use flow::verdict::Verdict;
-use policy::number;
+use shared::number;
 
 // The number 0 to 6 of any bytes as a policy.
 #[no_mangle]
@@ -73,7 +73,7 @@ pub extern "C" fn rx_transaction(
     let verdict = flow::verdict::program_verdict(policy, program);
     match verdict {
         Verdict::Fine => {
-            let span = bodies::span::body_span(policy, program, k as usize);
+            let span = gathered::span::body_span(policy, program, k as usize);
             *start = span.start;
             *length = span.size;
             number::ACCEPTED
@@ -91,8 +91,8 @@ pub fn transaction_body<'a>(policy: &[u8], program: &'a [u8], k: usize) -> &'a [
     ensures { λ r. ⌜ now r ≡ partBytes (now (program .entry)) (transactionPart (now (policy .entry)) (now (program .entry)) k) ⌝ }
 {
     let Verdict::Fine = flow::verdict::program_verdict(policy, program) else {
-        return bodies::span::part_of(program, 0, 0);
+        return gathered::span::part_of(program, 0, 0);
     };
-    let span = bodies::span::body_span(policy, program, k);
-    bodies::span::part_of(program, span.start, span.size)
+    let span = gathered::span::body_span(policy, program, k);
+    gathered::span::part_of(program, span.start, span.size)
 }

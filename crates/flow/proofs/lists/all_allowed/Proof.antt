@@ -5,13 +5,13 @@ use Rattle.flow.proofs.lists.all_allowed.Tie as tie
 use Rattle.flow.proofs.lists.all_allowed.Reads as reads
 use Rattle.flow.proofs.lists.all_allowed.Lts as lts
 use Rattle.flow.proofs.lists.is_allowed.Reads as is-allowed-reads
-use Rattle.walk.proofs.positions.ahead.Reads as ahead-reads
+use Rattle.gathered.proofs.positions.ahead.Reads as ahead-reads
 
 abbrev Inv-loop : tie.InvT-loop
-Inv-loop policy p n at left₀ here₀ left here = Allowing policy p n at left here
+Inv-loop policy program n at left₀ here₀ left here = Allowing policy program n at left here
 
 abbrev μ-loop : tie.MeasureT-loop
-μ-loop policy p n at left₀ here₀ left here = left
+μ-loop policy program n at left₀ here₀ left here = left
 
 pub all-allowed-spec : {M : Type 1} → statement M
 all-allowed-spec =

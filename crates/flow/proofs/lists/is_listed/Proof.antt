@@ -4,14 +4,14 @@ use Rattle.flow.proofs.lists.is_listed.Statement.{statement}
 use Rattle.flow.proofs.lists.is_listed.Tie as tie
 use Rattle.flow.proofs.lists.is_listed.Reads as reads
 use Rattle.flow.proofs.lists.is_listed.Lts as lts
-use Rattle.flow.proofs.lists.is_pair.Reads as is-pair-reads
-use Rattle.walk.proofs.positions.ahead.Reads as ahead-reads
+use Rattle.flow.proofs.lists.is_same.Reads as is-same-reads
+use Rattle.gathered.proofs.positions.ahead.Reads as ahead-reads
 
 abbrev Inv-loop : tie.InvT-loop
-Inv-loop p n at first second left₀ here₀ left here = Listing p n at first second left here
+Inv-loop program n at other left₀ here₀ left here = Listing program n at other left here
 
 abbrev μ-loop : tie.MeasureT-loop
-μ-loop p n at first second left₀ here₀ left here = left
+μ-loop program n at other left₀ here₀ left here = left
 
 pub is-listed-spec : {M : Type 1} → statement M
 is-listed-spec =

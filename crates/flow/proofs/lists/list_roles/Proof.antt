@@ -4,14 +4,14 @@ use Rattle.flow.proofs.lists.list_roles.Statement.{statement}
 use Rattle.flow.proofs.lists.list_roles.Tie as tie
 use Rattle.flow.proofs.lists.list_roles.Reads as reads
 use Rattle.flow.proofs.lists.list_roles.Lts as lts
-use Rattle.flow.proofs.lists.pair_roles.Reads as pair-roles-reads
-use Rattle.walk.proofs.positions.ahead.Reads as ahead-reads
+use Rattle.flow.proofs.lists.query_roles.Reads as query-roles-reads
+use Rattle.gathered.proofs.positions.ahead.Reads as ahead-reads
 
 abbrev Inv-loop : tie.InvT-loop
-Inv-loop p n at found₀ unread₀ here₀ found unread here = Naming p n at found unread here
+Inv-loop program n at found₀ unread₀ here₀ found unread here = Naming program n at found unread here
 
 abbrev μ-loop : tie.MeasureT-loop
-μ-loop p n at found₀ unread₀ here₀ found unread here = unread
+μ-loop program n at found₀ unread₀ here₀ found unread here = unread
 
 pub list-roles-spec : {M : Type 1} → statement M
 list-roles-spec =

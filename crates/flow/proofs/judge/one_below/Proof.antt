@@ -1,0 +1,12 @@
+use Rattle.flow.proofs.JudgeLaws.{ones}
+use borrow.Author.Needs.{needs}
+use Rattle.flow.proofs.judge.one_below.Statement.{statement}
+use Rattle.flow.proofs.judge.one_below.Tie as tie
+use Rattle.flow.proofs.judge.one_below.Reads as reads
+use Rattle.flow.proofs.judge.one_below.Lts as lts
+use Rattle.flow.proofs.judge.below.Reads as below-reads
+use Rattle.flow.proofs.judge.target.Reads as target-reads
+
+pub one-below-spec : {M : Type 1} → statement M
+one-below-spec =
+    tie.close (tie.spec (λ c κs. search needs) (λ c. search needs) (λ c. search needs) (λ c. search (needs, ones)) (λ c κs. search needs) (λ c. search (needs, ones)))

@@ -1,0 +1,21 @@
+use Rattle.flow.proofs.ListLaws.{sames}
+use borrow.Author.Needs.{needs}
+use Rattle.flow.proofs.lists.is_same.Statement.{statement}
+use Rattle.flow.proofs.lists.is_same.Tie as tie
+use Rattle.flow.proofs.lists.is_same.Reads as reads
+use Rattle.flow.proofs.lists.is_same.Lts as lts
+use Rattle.gathered.proofs.positions.ahead.Reads as ahead-reads
+use Rattle.shared.proofs.bytes.byte_at.Reads as byte-at-reads
+
+pub is-same-spec : {M : Type 1} → statement M
+is-same-spec =
+    tie.close
+    (tie.spec
+    (λ c κs. search needs)
+    (λ c κs. search needs)
+    (λ c. search (needs, sames))
+    (λ c κs. search needs)
+    (λ c κs. search needs)
+    (λ c κs. search needs)
+    (λ c κs. search needs)
+    (λ c. search (needs, sames)))

@@ -1,0 +1,23 @@
+use Rattle.flow.proofs.ListLaws.{query-reads}
+use borrow.Author.Needs.{needs}
+use Rattle.flow.proofs.lists.query_at.Statement.{statement}
+use Rattle.flow.proofs.lists.query_at.Tie as tie
+use Rattle.flow.proofs.lists.query_at.Reads as reads
+use Rattle.flow.proofs.lists.query_at.Lts as lts
+use Rattle.gathered.proofs.positions.ahead.Reads as ahead-reads
+use Rattle.gathered.proofs.positions.atom_at.Reads as atom-at-reads
+
+pub query-at-spec : {M : Type 1} → statement M
+query-at-spec =
+    tie.close
+    (tie.spec
+    (λ c κs. search needs)
+    (λ c. search needs)
+    (λ c. search needs)
+    (λ c. search (needs, query-reads))
+    (λ c κs. search needs)
+    (λ c κs. search needs)
+    (λ c. search needs)
+    (λ c. search needs)
+    (λ c. search (needs, query-reads))
+    (λ c. search (needs, query-reads)))
