@@ -17,11 +17,11 @@ use Rattle.model.specs.Policy.{Side, reading, trust, principals, roles, Accepte
 use Rattle.model.specs.Mutation.{Mutation}
 use Rattle.model.specs.Syntax.{Atom, Query as ModelQuery, Expr, Stmt, skip, assign, empty, block, if, while, query as stmtQuery, update, transaction}
 use Rattle.model.specs.Program.{got, variables, readMany, readExpr, readQuery, readStmt, blockOf}
-use Rattle.model.specs.Fits.{Each, MutationFits, ExprFits, Fits}
+use Rattle.model.specs.Fits.{Each, QueryFits, MutationFits, ExprFits, Fits}
 use Rattle.model.specs.Flow.{Around as Surroundings, outside, inside, exprLabel, queryLabel, listLabel, assigned, rolesOf, mutated, listedIn, allAllowed, mayAssign, mayUpdate, flow}
 use Rattle.model.proofs.Accepted.{accepted-facts}
 use Rattle.model.proofs.Sets.{has-zero, or-has, with-has}
-use Rattle.model.proofs.Standing.{many-none, many-more, query-parts, mutations-end, stmt-deep, stmt-there, stmt-known, skip-parts, assign-parts, block-parts, if-parts, while-parts, branch-parts, update-parts, transaction-parts}
+use Rattle.model.proofs.Standing.{many-none, many-more, mutations-end, stmt-deep, stmt-there, stmt-known, skip-parts, assign-parts, block-parts, if-parts, while-parts, branch-parts, update-parts, transaction-parts}
 use Rattle.program.specs.declared.answer.Answer.{Answer}
 use Rattle.program.specs.declared.answer.Answer.the-variants.{At, Refused}
 use Rattle.program.specs.declared.codes.Atom.{Atom as CodeAtom}
@@ -32,7 +32,7 @@ use Rattle.program.specs.declared.codes.StatementOf.the-variants as statement
 use Rattle.program.specs.Answer.{Reached, reached, stopped, reachedBy}
 use Rattle.program.specs.Codes.{statementOf, statementByte}
 use Rattle.program.proofs.CodeLaws.{statement-byte, statement-none}
-use Rattle.order.specs.Table.{tableWords, queryOf, queryRoles, listRoles, Learnt, DecidesQuery}
+use Rattle.order.specs.Table.{tableWords, queryOf, queryRoles, listRoles, Learnt}
 use Rattle.order.proofs.LearnLaws.{known-learnt}
 use Rattle.gathered.specs.declared.labels.Labels.{Labels}
 use Rattle.gathered.specs.declared.writes.Writes.{Writes}
@@ -44,10 +44,10 @@ use Rattle.flow.specs.declared.context.Around.{Around}
 use Rattle.flow.specs.declared.context.Context.{Context}
 use Rattle.flow.specs.declared.lists.QueryOf.{QueryOf}
 use Rattle.flow.specs.declared.lists.QueryOf.the-variants as query
-use Rattle.flow.specs.Lists.{ListedAt, QueryNames, QueryAt, ListRolesAt, AllowedAt}
+use Rattle.flow.specs.Lists.{ListedAt, QueryAt, KnownAt, QueryRolesAt, ListRolesAt, AllowedAt}
 use Rattle.flow.specs.Context.{ContextIs, withLabels, withNamed, within}
 use Rattle.flow.specs.Judge.{SetBelow, sidesNumber, Asked, allAbove, WriteNumber, AssignNumber}
-use Rattle.flow.specs.Check.{checkedTo, numbered, Ready, Inside, AroundIs, Stands, StmtAt, StmtFits, CheckedAt, CodedAt, AssignAt, UpdateAt, PairAt, BranchAt, BranchesAt, AskedAt, bodyStart, EnteredAt}
+use Rattle.flow.specs.Check.{checkedTo, numbered, Ready, Inside, AroundIs, Stands, StmtAt, StmtFits, CheckedAt, CodedAt, AssignAt, UpdateAt, PairAt, BranchesAt, BothAt, BranchesOf, bodyStart, EnteredAt}
 use Rattle.flow.proofs.ContextLaws.{context-expr, context-query, context-list, context-around}
 use Rattle.flow.proofs.ListLaws.{query-not, query-is}
 
@@ -278,28 +278,6 @@ module _ (s p t : List ℕ) (c : Context) (d at : ℕ) (o : Answer) (f : Checked
 
 pub ruleset pairs = (pair-first, pair-second)
 
--- one more query known, by a table of its own or by the same table
-module _ (s p t : List ℕ) (c : Context) (d at : ℕ) (q : ModelQuery) (r : Answer) where
-  known-by : (k : List ℕ) → Learnt (roles s) t k q → CheckedAt s p k c d at r → BranchAt s p t c d at q true r
-  unfolding CheckedAt BranchAt Learnt
-  known-by k l f around known C x end fits st h fit =
-      f around (q ∷ known) C x end (record {
-        is-accepted = st .is-accepted;
-        few = st .few;
-        labels = st .labels;
-        knows = l s known (st .is-accepted) refl fits (st .knows);
-        surrounded = st .surrounded;
-        context = st .context;
-      }) h fit
-
-  pub known-already : (b : Bool) → DecidesQuery t q b → b ≡ true → CheckedAt s p t c d at r → BranchAt s p t c d at q true r
-  known-already b f e = known-by t (known-learnt (roles s) t q b f e)
-
-  pub known-now : (k : List ℕ) (n : ℕ) → n ≡ roles s → Learnt n t k q → CheckedAt s p k c d at r → BranchAt s p t c d at q true r
-  known-now k n e l = known-by k (rw e at l)
-
-pub ruleset knowns = (known-already, known-now)
-
 -- what an accepted policy has: few roles
 pub roles-fit : (s t : List ℕ) (n : ℕ) → Ready s t → n ≡ roles s → n ≤ 64
 roles-fit s t n ready e = rw e (accepted-facts s (ready .is-accepted) .roles-fit)
@@ -309,61 +287,51 @@ ready-too s t k ready l = record { is-accepted = ready .is-accepted; long = l }
 
 pub ruleset readies = (roles-fit, ready-too)
 
--- a branch that knows the query, and one that does not
-module _ (s p t : List ℕ) (c : Context) (d at : ℕ) (q : ModelQuery) (knows : Bool) (r : Answer) where
-  pub branch-known : knows ≡ true → BranchAt s p t c d at q true r → BranchAt s p t c d at q knows r
-  branch-known e f = rw e f
+-- the branches of a query: the first by the table k, which also knows it, the second by the table t
+module _ (s p k t : List ℕ) (c : Context) (d at : ℕ) (o : Answer) (f : CheckedAt s p k c d at o) where
+  first-branch : (q : ModelQuery) → Learnt (roles s) t k q → (around : Surroundings) (known : List ModelQuery) (C : Side → List Atom) (x : Stmt) (mid : ℕ)
+      → QueryFits (roles s) q → Stands s p t c around known C → StmtAt s p d at x mid → StmtFits s p x
+      → reachedBy o ≡ checkedTo (flow s p around (q ∷ known) C x) mid
+  unfolding CheckedAt Learnt
+  first-branch q l around known C x mid fits st h fit =
+      f around (q ∷ known) C x mid (record {
+        is-accepted = st .is-accepted;
+        few = st .few;
+        labels = st .labels;
+        knows = l s known (st .is-accepted) refl fits (st .knows);
+        surrounded = st .surrounded;
+        context = st .context;
+      }) h fit
 
-  pub branch-other : knows ≡ false → CheckedAt s p t c d at r → BranchAt s p t c d at q knows r
-  unfolding CheckedAt BranchAt
-  branch-other e f = rw e (λ around known C x end fits st h fit. f around known C x end st h fit)
+  pub branches-first : (n place : ℕ) → o ≡ Refused n place → BothAt s p k t c d at o
+  unfolding BothAt BranchesAt
+  branches-first n place g q l around known C x y mid end below st h fit h′ fit′ =
+      or-stopped _ _ mid end (reachedBy o) (first-branch q l around known C x mid below st h fit) n place (ap reachedBy g)
 
-pub ruleset one-branch = (branch-known, branch-other)
-
--- the branches of a query
-module _ (s p t : List ℕ) (c : Context) (d at : ℕ) (q : ModelQuery) (o : Answer) (f : BranchAt s p t c d at q true o) where
-  pub branches-first : (n place : ℕ) → o ≡ Refused n place → BranchesAt s p t c d at q o
-  unfolding BranchAt BranchesAt
-  branches-first n place g around known C x y mid end below st h fit h′ fit′ =
-      or-stopped _ _ mid end (reachedBy o) (f around known C x mid below st h fit) n place (ap reachedBy g)
-
-  pub branches-second : (m : ℕ) (r : Answer) → o ≡ At m → BranchAt s p t c d m q false r → BranchesAt s p t c d at q r
-  unfolding BranchAt BranchesAt
-  branches-second m r g w around known C x y mid end below st h fit h′ fit′ =
-      let v = f around known C x mid below st h fit in
-      let k : m ≡ mid = reached-is _ (flow s p around known C y) mid end (reachedBy o) v m (ap reachedBy g) in
-      w around known C y end below st (rw k h′) fit′ ∙ rw (or-reached _ (flow s p around known C y) mid end (reachedBy o) v m (ap reachedBy g))
+  pub branches-second : (m : ℕ) (r : Answer) → o ≡ At m → CheckedAt s p t c d m r → BothAt s p k t c d at r
+  unfolding BothAt BranchesAt CheckedAt
+  branches-second m r g w q l around known C x y mid end below st h fit h′ fit′ =
+      let v = first-branch q l around known C x mid below st h fit in
+      let e : m ≡ mid = reached-is _ (flow s p around known C y) mid end (reachedBy o) v m (ap reachedBy g) in
+      w around known C y end st (rw e h′) fit′ ∙ rw (or-reached _ (flow s p around known C y) mid end (reachedBy o) v m (ap reachedBy g))
 
 pub ruleset branches = (branches-first, branches-second)
 
-branches-same : (s p t : List ℕ) (c : Context) (d at : ℕ) (r : Answer) {q q′ : ModelQuery} → q ≡ q′ → BranchesAt s p t c d at q r → BranchesAt s p t c d at q′ r
-branches-same s p t c d at r e h = rw (← e) h
+-- with a table of its own
+module _ (s p t : List ℕ) (c : Context) (d at asked : ℕ) (o : QueryOf) (f : QueryAt p asked o) where
+  pub learnt-none : (r : Answer) → o ≡ query.No → BranchesOf s p t c d at asked r
+  unfolding QueryAt BranchesOf
+  learnt-none r g q end h = query-not o q (f (roles s) q end h) g
 
--- a query's two atoms and its branches
-module _ (s p t : List ℕ) (c : Context) (d at n : ℕ) (o : QueryOf) (i : n ≡ ahead p at 1) (f : QueryAt p n o) where
-  asked-is : (q : ModelQuery) → readQuery p (roles s) (at + 1) ≡ got q (at + 3) → (at + 3 ≤ length p) × QueryNames o q
-  unfolding QueryAt
-  asked-is q h =
-      let u = query-parts p (roles s) (at + 1) h in
-      let ne : n ≡ at + 1 = i ∙ ahead-is p at 1 (omega (arith, u .inside)) in
-      (omega (arith, u .inside), f (roles s) q (at + 3) (rw ne h))
+  pub learnt-both : (a b : CodeAtom) (n : ℕ) (k : List ℕ) (r : Answer) → o ≡ query.Is a b → n ≡ roles s → Learnt n t k (queryOf a b) → BothAt s p k t c d at r → BranchesOf s p t c d at asked r
+  unfolding QueryAt BothAt BranchesOf
+  learnt-both a b n k r g e l w q end h =
+      w q (learnt-same t k e (query-is o q a b (f (roles s) q end h) g) l)
+    where
+      learnt-same : (t k : List ℕ) {n m : ℕ} {q q′ : ModelQuery} → n ≡ m → q ≡ q′ → Learnt n t k q → Learnt m t k q′
+      learnt-same t k e f l = rw (← e, ← f) l
 
-  pub asked-none : (r : Answer) → o ≡ query.No → AskedAt s p t c d at r
-  unfolding AskedAt
-  asked-none r g around known C q x y mid end h below st a fa b fb = query-not o q (asked-is q h .1) g
-
-  pub asked-branches : (a b : CodeAtom) (named start : ℕ) (k : Context) (r : Answer) → o ≡ query.Is a b → named ≡ queryRoles (queryOf a b) → k ≡ withNamed c named → start ≡ ahead p at 3 → BranchesAt s p t k d start (queryOf a b) r → AskedAt s p t c d at r
-  unfolding AskedAt BranchesAt
-  asked-branches a b named start k r eo en ek es w around known C q x y mid end h below st l fl l′ fl′ =
-      let u = asked-is q h in
-      let qe : queryOf a b ≡ q = query-is o q a b (u .1) eo in
-      let kc : k ≡ withNamed c (queryRoles q) = ek ∙ ap (withNamed c) (en ∙ ap queryRoles qe) in
-      let cq : ContextIs (roles s) k (λ side. queryLabel side q ++ C side) = rw kc (context-query (roles s) c C (st .context) (roles-few st) q below) in
-      let se : start ≡ at + 3 = es ∙ ahead-is p at 3 (u .0) in
-      branches-same s p t k d start r qe w around known (λ side. queryLabel side q ++ C side) x y mid end
-      below (stands-context st (ap (λ (c : Context). c .around) kc) cq) (rw se l) fl l′ fl′
-
-pub ruleset askeds = (asked-none, asked-branches)
+pub ruleset learnts = (learnt-none, learnt-both)
 
 -- a statement, by its code
 module _ (s p t : List ℕ) (c : Context) (d at : ℕ) where
@@ -465,15 +433,31 @@ module _ (s p t : List ℕ) (c : Context) (d at : ℕ) where
         let b = listed-is (u .asked) (v .listed) (v .parts .end) (at + 3) (u .asked-parts .inside) (v .parts .listed-read) (u .asked-read) in
         rw (u .is, v .is, sym b ∙ k)
 
-    pub query-listed : (r : Answer) → l ≡ true → AskedAt s p t c (d - 1) at r → CodedAt Query s p t c d at r
-    unfolding CodedAt CheckedAt AskedAt flow
-    query-listed r k f code around known C x end st h fit =
-        let u = branch-parts p (principals s) (roles s) (variables p) d at h code in
-        let v = within-one p (roles s) (variables p) (c .around) around (st .surrounded) e in
-        let b = listed-is (u .asked) (v .listed) (v .parts .end) (at + 3) (u .asked-parts .inside) (v .parts .listed-read) (u .asked-read) in
-        let fits = rw (u .is) at fit in
-        rw (u .is, v .is, sym b ∙ k)
-        (rw (v .is) at (f around known C (u .asked) (u .left) (u .right) (u .mid) end (u .asked-read) (fits .0) st (u .left-read) (fits .1) (u .right-read) (fits .2)))
+    -- listed: its label is joined to the context of both branches
+    module _ (le : l ≡ true) (named start : ℕ) (k : Context) (es : start ≡ ahead p at 3) (f : QueryRolesAt p m named) (ek : k ≡ withNamed c named) where
+      query-by : (r : Answer) → ((q : ModelQuery) (end : ℕ) → readQuery p (roles s) m ≡ got q end → BranchesAt s p t k (d - 1) start q r) → CodedAt Query s p t c d at r
+      unfolding CodedAt CheckedAt BranchesAt QueryRolesAt flow
+      query-by r g code around known C x end st h fit =
+          let u = branch-parts p (principals s) (roles s) (variables p) d at h code in
+          let v = within-one p (roles s) (variables p) (c .around) around (st .surrounded) e in
+          let b = listed-is (u .asked) (v .listed) (v .parts .end) (at + 3) (u .asked-parts .inside) (v .parts .listed-read) (u .asked-read) in
+          let fits = rw (u .is) at fit in
+          let me : m ≡ at + 1 = w ∙ ahead-is p at 1 (omega (arith, u .asked-parts .inside)) in
+          let asked : readQuery p (roles s) m ≡ got (u .asked) (at + 3) = rw me (u .asked-read) in
+          let kc : k ≡ withNamed c (queryRoles (u .asked)) = ek ∙ ap (withNamed c) (f (roles s) (u .asked) (at + 3) asked) in
+          let cq : ContextIs (roles s) k (λ side. queryLabel side (u .asked) ++ C side) = rw kc (context-query (roles s) c C (st .context) (roles-few st) (u .asked) (fits .0)) in
+          let se : start ≡ at + 3 = es ∙ ahead-is p at 3 (omega (arith, u .asked-parts .inside)) in
+          rw (u .is, v .is, sym b ∙ le)
+          (rw (v .is) at (g (u .asked) (at + 3) asked around known (λ side. queryLabel side (u .asked) ++ C side) (u .left) (u .right) (u .mid) end
+          (fits .0) (stands-context st (ap (λ (c : Context). c .around) kc) cq) (rw se (u .left-read)) (fits .1) (u .right-read) (fits .2)))
+
+      pub query-known : (b : Bool) (r : Answer) → KnownAt p t m b → b ≡ true → BothAt s p t t k (d - 1) start r → CodedAt Query s p t c d at r
+      unfolding KnownAt BothAt
+      query-known b r g z h = query-by r (λ q end i. h q (known-learnt (roles s) t q b (g (roles s) q end i) z))
+
+      pub query-learnt : (r : Answer) → BranchesOf s p t k (d - 1) start m r → CodedAt Query s p t c d at r
+      unfolding BranchesOf
+      query-learnt r h = query-by r h
 
   -- a transaction
   pub transaction-nested : c .around .inside ≡ true → CodedAt Transaction s p t c d at (Refused 15 at)
@@ -533,7 +517,7 @@ module _ (s p t : List ℕ) (c : Context) (d at : ℕ) where
 
 pub ruleset blocks = (block-start, block-done, block-refused, block-more)
 
-pub ruleset queries = (query-outside, query-unlisted, query-listed)
+pub ruleset queries = (query-outside, query-unlisted, query-known, query-learnt)
 
 pub ruleset transactions = (transaction-nested, transaction-body)
 

@@ -28,13 +28,13 @@ use Rattle.program.specs.declared.codes.KindOf.{KindOf}
 use Rattle.program.specs.declared.codes.KindOf.the-variants as kind
 use Rattle.program.specs.Codes.{atomOf, modelAtom, kindOf, kindByte, modelKind}
 use Rattle.program.proofs.CodeLaws.{atom-is, atom-some, kind-byte, kind-none}
-use Rattle.order.specs.Table.{namedRole, queryOf, queryRoles, listRoles}
+use Rattle.order.specs.Table.{namedRole, queryOf, queryRoles, listRoles, DecidesQuery}
 use Rattle.gathered.specs.Positions.{ahead}
 use Rattle.gathered.proofs.PositionLaws.{ahead-is}
 use Rattle.model.proofs.Standing.{then-parts, pick-parts, either-parts, same-value, byte-parts, below-parts, many-none, many-more, query-parts, kindCode, mutation-parts}
 use Rattle.flow.specs.declared.lists.QueryOf.{QueryOf}
 use Rattle.flow.specs.declared.lists.QueryOf.the-variants as query
-use Rattle.flow.specs.Lists.{SameAt, ListedAt, QueryNames, QueryAt, QueryRolesAt, ListRolesAt, HoldsRight, TakesRight, OneAllowedAt, AllowedAt}
+use Rattle.flow.specs.Lists.{SameAt, ListedAt, QueryNames, QueryAt, KnownAt, QueryRolesAt, ListRolesAt, HoldsRight, TakesRight, OneAllowedAt, AllowedAt}
 
 -- a query that was read: its second byte stands one ahead, and the next query two ahead
 module _ (p : List ℕ) (R at : ℕ) {k : Query} {end : ℕ} (e : readQuery p R at ≡ got k end) where
@@ -169,6 +169,21 @@ module _ (p : List ℕ) (at : ℕ) (o : QueryOf) (f : QueryAt p at o) where
   named-both a b r h l R q end e = l ∙ ap queryRoles (query-is o q a b (f R q end e) h)
 
 pub ruleset query-names = (named-none, named-both)
+
+-- whether the table knows one query already
+module _ (p t : List ℕ) (at : ℕ) (o : QueryOf) (f : QueryAt p at o) where
+  pub known-none : o ≡ query.No → KnownAt p t at false
+  unfolding QueryAt KnownAt
+  known-none h R q end e = query-not o q (f R q end e) h
+
+  pub known-is : (a b : CodeAtom) (r : Bool) → o ≡ query.Is a b → DecidesQuery t (queryOf a b) r → KnownAt p t at r
+  unfolding QueryAt KnownAt
+  known-is a b r h g R q end e = same (query-is o q a b (f R q end e) h) g
+    where
+      same : {q q′ : Query} → q ≡ q′ → DecidesQuery t q r → DecidesQuery t q′ r
+      same e g = rw (← e) g
+
+pub ruleset known-queries = (known-none, known-is)
 
 -- the roles found so far, with those of the `left` queries from `here` on, are the roles of all n
 module _ (p : List ℕ) (n at : ℕ) where

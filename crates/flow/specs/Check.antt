@@ -2,7 +2,7 @@
 use mathlib.Core.Path.{_≡_}
 use Prim.Native.Nat.{ℕ, _+_, _*_, _≤_}
 use mathlib.Core.List.{List, _∷_, List·Memᴰ}
-use mathlib.Core.Bool.{Bool, true, false, cond}
+use mathlib.Core.Bool.{true, false, cond}
 use lib.Dec.{eqb}
 use lib.ListN.{length}
 use Rattle.model.specs.Number.{Verdict, fine, refused, orElse}
@@ -12,8 +12,8 @@ use Rattle.model.specs.Policy.{Side, principals, roles, Accepted}
 use Rattle.model.specs.Syntax.{Atom, Query, Stmt}
 use Rattle.model.specs.Program.{got, variables, readMany, readQuery, readStmt}
 use Rattle.model.specs.Fits.{Each, QueryFits, Fits}
-use Rattle.model.specs.Flow.{Around as Surroundings, outside, inside, underQuery, assigned, mutated, flow}
-use Rattle.order.specs.Table.{tableWords, Knows, listRoles}
+use Rattle.model.specs.Flow.{Around as Surroundings, outside, inside, assigned, mutated, flow}
+use Rattle.order.specs.Table.{tableWords, Knows, listRoles, Learnt}
 use Rattle.program.specs.declared.answer.Answer.{Answer}
 use Rattle.program.specs.declared.codes.Statement.{Statement}
 use Rattle.program.specs.Answer.{Reached, reached, stopped, reachedBy}
@@ -96,18 +96,6 @@ PairAt s p t c depth at r =
     → Stands s p t c around known C → StmtAt s p depth at x mid → StmtFits s p x → StmtAt s p depth mid y end → StmtFits s p y
     → reachedBy r ≡ checkedTo (orElse (flow s p around known C x) (flow s p around known C y)) end
 
--- what a branch of the query q knows
-abbrev pub knownIn : Bool → Query → List Query → List Query
-knownIn true q known = q ∷ known
-knownIn false q known = known
-
--- the same of a branch of the query q, which knows it or not
-unfoldable pub BranchAt : List ℕ → List ℕ → List ℕ → Context → ℕ → ℕ → Query → Bool → Answer → Type 0
-BranchAt s p t c depth at q knows r =
-    (around : Surroundings) (known : List Query) (C : Side → List Atom) (x : Stmt) (end : ℕ)
-    → QueryFits (roles s) q → Stands s p t c around known C → StmtAt s p depth at x end → StmtFits s p x
-    → reachedBy r ≡ checkedTo (flow s p around (knownIn knows q known) C x) end
-
 -- the same of the branches of the query q: the first also knows it
 unfoldable pub BranchesAt : List ℕ → List ℕ → List ℕ → Context → ℕ → ℕ → Query → Answer → Type 0
 BranchesAt s p t c depth at q r =
@@ -116,13 +104,13 @@ BranchesAt s p t c depth at q r =
     → StmtAt s p depth at x mid → StmtFits s p x → StmtAt s p depth mid y end → StmtFits s p y
     → reachedBy r ≡ checkedTo (orElse (flow s p around (q ∷ known) C x) (flow s p around known C y)) end
 
--- the same of the query q whose code stands at a position: its label is joined to the context of both branches
-unfoldable pub AskedAt : List ℕ → List ℕ → List ℕ → Context → ℕ → ℕ → Answer → Type 0
-AskedAt s p t c depth at r =
-    (around : Surroundings) (known : List Query) (C : Side → List Atom) (q : Query) (x y : Stmt) (mid end : ℕ)
-    → readQuery p (roles s) (at + 1) ≡ got q (at + 3) → QueryFits (roles s) q → Stands s p t c around known C
-    → StmtAt s p depth (at + 3) x mid → StmtFits s p x → StmtAt s p depth mid y end → StmtFits s p y
-    → reachedBy r ≡ checkedTo (orElse (flow s p around (q ∷ known) (underQuery q C) x) (flow s p around known (underQuery q C) y)) end
+-- the same, where k is the table t with that query known
+unfoldable pub BothAt : List ℕ → List ℕ → List ℕ → List ℕ → Context → ℕ → ℕ → Answer → Type 0
+BothAt s p k t c depth at r = (q : Query) → Learnt (roles s) t k q → BranchesAt s p t c depth at q r
+
+-- the same, where the query stands at the position `asked`
+unfoldable pub BranchesOf : List ℕ → List ℕ → List ℕ → Context → ℕ → ℕ → ℕ → Answer → Type 0
+BranchesOf s p t c depth at asked r = (q : Query) (end : ℕ) → readQuery p (roles s) asked ≡ got q end → BranchesAt s p t c depth at q r
 
 -- where a transaction's body starts: its count stands after the code, then its queries
 abbrev pub bodyStart : List ℕ → ℕ → ℕ

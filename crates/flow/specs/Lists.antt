@@ -9,7 +9,7 @@ use Rattle.model.specs.Syntax.{Query, sameQuery}
 use Rattle.model.specs.Program.{got, readMany, readQuery, readMutation}
 use Rattle.model.specs.Flow.{listedIn, allAllowed}
 use Rattle.program.specs.declared.codes.Atom.{Atom as CodeAtom}
-use Rattle.order.specs.Table.{queryOf, queryRoles, listRoles}
+use Rattle.order.specs.Table.{queryOf, queryRoles, listRoles, DecidesQuery}
 use Rattle.flow.specs.declared.lists.QueryOf.{QueryOf}
 use Rattle.flow.specs.declared.lists.QueryOf.the-variants as query
 
@@ -34,6 +34,10 @@ pub record QueryNames (o : QueryOf) (q : Query) : Type 0 where
 -- o is the query that stands at a position
 unfoldable pub QueryAt : List ℕ → ℕ → QueryOf → Type 0
 QueryAt p at o = (R : ℕ) (q : Query) (end : ℕ) → readQuery p R at ≡ got q end → QueryNames o q
+
+-- r says whether the table t knows the query that stands at a position already
+unfoldable pub KnownAt : List ℕ → List ℕ → ℕ → Bool → Type 0
+KnownAt p t at r = (R : ℕ) (q : Query) (end : ℕ) → readQuery p R at ≡ got q end → DecidesQuery t q r
 
 -- r is the set of the roles named in the query that stands at a position
 unfoldable pub QueryRolesAt : List ℕ → ℕ → ℕ → Type 0

@@ -2,14 +2,13 @@
 // first. Statement check and transaction check call each other, the remaining depth falling; a flag in the context forbids
 // nesting. Contracts speak of the tree that stands at a position; where none stands, any answer is right.
 ghost use mathlib.Core.Path.{_≡_};
-ghost use mathlib.Core.Bool.{true};
-ghost use Prim.Native.Nat.{_<_, _≤_};
+ghost use Prim.Native.Nat.{_<_};
 ghost use lib.ListN.{length};
 ghost use Rattle.model.specs.Policy.{Accepted};
-ghost use Rattle.order.specs.Table.{tableWords, queryOf, Learnt};
+ghost use Rattle.order.specs.Table.{tableWords};
 ghost use Rattle.program.specs.Answer.{reachedBy};
 ghost use Rattle.program.specs.declared.codes.Statement.the-variants.{Block, If, While, Query, Transaction};
-ghost use Rattle.flow.specs.Check.{numbered, Ready, EnteredAt, CheckedAt, CodedAt, AssignAt, UpdateAt, PairAt, BranchAt, BranchesAt, AskedAt};
+ghost use Rattle.flow.specs.Check.{numbered, Ready, EnteredAt, CheckedAt, CodedAt, AssignAt, UpdateAt, PairAt, BothAt, BranchesOf};
 use super::context;
 use super::context::Around;
 use super::context::Context;
@@ -22,7 +21,6 @@ use gathered::writes;
 use order::table;
 use policy::rows;
 use program::answer::Answer;
-use program::codes::Atom;
 use program::codes::Statement;
 use program::codes::StatementOf;
 use shared::bytes;
@@ -116,22 +114,6 @@ fn entered(program: &[u8], depth: u8, at: usize) -> Around
         variables: written.variables,
         roles: written.roles,
     }
-}
-
-// The table with one more query known.
-fn learnt(
-    table: &[u64; table::TABLE_WORDS],
-    roles: u8,
-    first: Atom,
-    second: Atom,
-) -> [u64; table::TABLE_WORDS]
-    requires { ⌜ (length (now table) ≡ tableWords) × (roles ≤ 64) ⌝ }
-    ensures long { λ r. ⌜ length r ≡ tableWords ⌝ }
-    ensures known { λ r. ⌜ Learnt roles (now (table .entry)) r (queryOf first second) ⌝ }
-{
-    let mut known = *table;
-    order::learn::learn(&mut known, roles, first, second);
-    known
 }
 
 // Where no statement stands any answer is right.
@@ -252,7 +234,8 @@ fn check_while(
     check_stmt(policy, program, table, inner, depth - 1, start)
 }
 
-// Only in a transaction whose list holds that pair.
+// Only in a transaction whose list holds that pair. A query that the table knows already needs no table of its own: so
+// however deep queries nest, no more tables are held at once than a transaction lists queries.
 fn check_query(
     policy: &[u8],
     program: &[u8],
@@ -268,117 +251,19 @@ fn check_query(
     if around.inside {
         let asked = positions::ahead(program, at, 1);
         if lists::is_listed(program, around.count, around.list, asked) {
-            return check_asked(policy, program, table, context, depth - 1, at);
+            let inner = context::with_named(context, lists::query_roles(program, asked));
+            let start = positions::ahead(program, at, 3);
+            if lists::is_known(program, table, asked) {
+                return check_branches(policy, program, table, table, inner, depth - 1, start);
+            }
+            return check_learnt(policy, program, table, inner, depth - 1, start, asked);
         }
         return Answer::Refused(number::FLOW_TRANSACTION, at);
     }
     Answer::Refused(number::FLOW_TRANSACTION, at)
 }
 
-// Both branches of the query whose code stands at `at` have its label joined to the context.
-fn check_asked(
-    policy: &[u8],
-    program: &[u8],
-    table: &[u64; table::TABLE_WORDS],
-    context: Context,
-    depth: u8,
-    at: usize,
-) -> Answer
-    requires { ⌜ Ready (now policy) (now table) ⌝ }
-    ensures { λ r. ⌜ AskedAt (now (policy .entry)) (now (program .entry)) (now (table .entry)) context depth at r ⌝ }
-{
-    let QueryOf::Is(first, second) = lists::query_at(program, positions::ahead(program, at, 1))
-    else {
-        return Answer::Refused(number::PROGRAM_CODE, at);
-    };
-    let inner = context::with_named(context, lists::named_roles(first, second));
-    let start = positions::ahead(program, at, 3);
-    check_branches(policy, program, table, inner, depth, start, first, second)
-}
-
-// The first branch also knows the query, the second does not.
-fn check_branches(
-    policy: &[u8],
-    program: &[u8],
-    table: &[u64; table::TABLE_WORDS],
-    context: Context,
-    depth: u8,
-    at: usize,
-    first: Atom,
-    second: Atom,
-) -> Answer
-    requires { ⌜ Ready (now policy) (now table) ⌝ }
-    ensures { λ r. ⌜ BranchesAt (now (policy .entry)) (now (program .entry)) (now (table .entry)) context depth at (queryOf first second) r ⌝ }
-{
-    let one = check_branch(
-        policy,
-        program,
-        table,
-        context,
-        depth,
-        at,
-        first,
-        second,
-        true,
-    );
-    let Answer::At(other) = one else {
-        return one;
-    };
-    check_branch(
-        policy,
-        program,
-        table,
-        context,
-        depth,
-        other,
-        first,
-        second,
-        false,
-    )
-}
-
-// A branch of a query, which it knows or not.
-fn check_branch(
-    policy: &[u8],
-    program: &[u8],
-    table: &[u64; table::TABLE_WORDS],
-    context: Context,
-    depth: u8,
-    at: usize,
-    first: Atom,
-    second: Atom,
-    knows: bool,
-) -> Answer
-    requires { ⌜ Ready (now policy) (now table) ⌝ }
-    ensures { λ r. ⌜ BranchAt (now (policy .entry)) (now (program .entry)) (now (table .entry)) context depth at (queryOf first second) knows r ⌝ }
-{
-    if knows {
-        return check_known(policy, program, table, context, depth, at, first, second);
-    }
-    check_stmt(policy, program, table, context, depth, at)
-}
-
-// A statement that also knows a query. One that the table knows already needs no table of its own: so however deep queries
-// nest, no more tables are held at once than a transaction lists queries.
-fn check_known(
-    policy: &[u8],
-    program: &[u8],
-    table: &[u64; table::TABLE_WORDS],
-    context: Context,
-    depth: u8,
-    at: usize,
-    first: Atom,
-    second: Atom,
-) -> Answer
-    requires { ⌜ Ready (now policy) (now table) ⌝ }
-    ensures { λ r. ⌜ BranchAt (now (policy .entry)) (now (program .entry)) (now (table .entry)) context depth at (queryOf first second) true r ⌝ }
-{
-    if order::learn::is_known(table, first, second) {
-        return check_stmt(policy, program, table, context, depth, at);
-    }
-    check_learnt(policy, program, table, context, depth, at, first, second)
-}
-
+// The branches of the query that stands at `asked`, the first with a table that knows it too.
 fn check_learnt(
     policy: &[u8],
     program: &[u8],
@@ -386,14 +271,37 @@ fn check_learnt(
     context: Context,
     depth: u8,
     at: usize,
-    first: Atom,
-    second: Atom,
+    asked: usize,
 ) -> Answer
     requires { ⌜ Ready (now policy) (now table) ⌝ }
-    ensures { λ r. ⌜ BranchAt (now (policy .entry)) (now (program .entry)) (now (table .entry)) context depth at (queryOf first second) true r ⌝ }
+    ensures { λ r. ⌜ BranchesOf (now (policy .entry)) (now (program .entry)) (now (table .entry)) context depth at asked r ⌝ }
 {
-    let known = learnt(table, rows::roles_of(policy), first, second);
-    check_stmt(policy, program, &known, context, depth, at)
+    let QueryOf::Is(first, second) = lists::query_at(program, asked) else {
+        return Answer::Refused(number::PROGRAM_CODE, asked);
+    };
+    let mut known = *table;
+    order::learn::learn(&mut known, rows::roles_of(policy), first, second);
+    check_branches(policy, program, &known, table, context, depth, at)
+}
+
+// The first branch also knows the query, by the table `known`; the second does not.
+fn check_branches(
+    policy: &[u8],
+    program: &[u8],
+    known: &[u64; table::TABLE_WORDS],
+    table: &[u64; table::TABLE_WORDS],
+    context: Context,
+    depth: u8,
+    at: usize,
+) -> Answer
+    requires { ⌜ (Ready (now policy) (now known)) × (Ready (now policy) (now table)) ⌝ }
+    ensures { λ r. ⌜ BothAt (now (policy .entry)) (now (program .entry)) (now (known .entry)) (now (table .entry)) context depth at r ⌝ }
+{
+    let one = check_stmt(policy, program, known, context, depth, at);
+    let Answer::At(other) = one else {
+        return one;
+    };
+    check_stmt(policy, program, table, context, depth, other)
 }
 
 // A transaction holds no transaction.

@@ -1,9 +1,10 @@
 // The lists of a transaction and of an update: which queries are listed, which roles they name, whether the policy file
 // allows what is added. Where a list was refused any answer is right, so each function takes every position.
 ghost use mathlib.Core.Path.{_≡_};
+ghost use lib.ListN.{length};
 ghost use Rattle.model.specs.Policy.{Accepted};
-ghost use Rattle.order.specs.Table.{queryOf, queryRoles};
-ghost use Rattle.flow.specs.Lists.{SameAt, ListedAt, QueryAt, QueryRolesAt, ListRolesAt, HoldsRight, TakesRight, OneAllowedAt, AllowedAt};
+ghost use Rattle.order.specs.Table.{tableWords, queryOf, queryRoles};
+ghost use Rattle.flow.specs.Lists.{SameAt, ListedAt, QueryAt, KnownAt, QueryRolesAt, ListRolesAt, HoldsRight, TakesRight, OneAllowedAt, AllowedAt};
 use gathered::positions;
 use order::table;
 use policy::rows;
@@ -67,13 +68,24 @@ pub fn named_roles(first: Atom, second: Atom) -> u64
 }
 
 // The roles named in the query that stands at `at`.
-fn query_roles(program: &[u8], at: usize) -> u64
+pub fn query_roles(program: &[u8], at: usize) -> u64
     ensures { λ r. ⌜ QueryRolesAt (now (program .entry)) at r ⌝ }
 {
     let QueryOf::Is(first, second) = query_at(program, at) else {
         return 0;
     };
     named_roles(first, second)
+}
+
+// Whether the table knows the query that stands at `at` already.
+pub fn is_known(program: &[u8], table: &[u64], at: usize) -> bool
+    requires { ⌜ length (now table) ≡ tableWords ⌝ }
+    ensures { λ r. ⌜ KnownAt (now (program .entry)) (now (table .entry)) at r ⌝ }
+{
+    let QueryOf::Is(first, second) = query_at(program, at) else {
+        return false;
+    };
+    order::learn::is_known(table, first, second)
 }
 
 // The roles named in the n queries that stand at `at`.

@@ -1,113 +1,87 @@
 -- The cycle of checks: each return is the verdict of the tree that stands at the position, by a law for that return; the
--- remaining depth falls, and between falls each callee comes after its caller. A block: what is left of it decides.
-use Rattle.flow.proofs.CheckLaws.{Blocking, readies, askeds, blocks, branches, if-checked, knowns, one-branch, pairs, queries, statements, transactions, while-checked}
+-- remaining depth falls, and where it stays each callee comes after its caller. A block: what is left of it decides.
+use Rattle.flow.proofs.CheckLaws.{Blocking, readies, blocks, branches, if-checked, learnts, pairs, queries, statements, transactions, while-checked}
 use borrow.Author.Needs.{needs}
 use Prim.Native.Nat.{ℕ, _<_, _+_, _*_}
 use borrow.Fn.Kinds.{In}
 use borrow.Fn.PlainCycle.{Measures, is, falls, and}
-use Rattle.flow.proofs.check.check_asked.Reads as check-asked
-use Rattle.flow.proofs.check.check_asked.Kinds as check-asked-kinds
-use Rattle.flow.proofs.check.+check_asked+check_block+check_branch+check_branches+check_if+check_known+check_learnt+check_pair+check_query+check_stmt+check_transaction+check_while.Lts-check_asked as check-asked-lts
 use Rattle.flow.proofs.check.check_block.Reads as check-block
 use Rattle.flow.proofs.check.check_block.Kinds as check-block-kinds
-use Rattle.flow.proofs.check.+check_asked+check_block+check_branch+check_branches+check_if+check_known+check_learnt+check_pair+check_query+check_stmt+check_transaction+check_while.Lts-check_block as check-block-lts
-use Rattle.flow.proofs.check.check_branch.Reads as check-branch
-use Rattle.flow.proofs.check.check_branch.Kinds as check-branch-kinds
-use Rattle.flow.proofs.check.+check_asked+check_block+check_branch+check_branches+check_if+check_known+check_learnt+check_pair+check_query+check_stmt+check_transaction+check_while.Lts-check_branch as check-branch-lts
+use Rattle.flow.proofs.check.+check_block+check_branches+check_if+check_learnt+check_pair+check_query+check_stmt+check_transaction+check_while.Lts-check_block as check-block-lts
 use Rattle.flow.proofs.check.check_branches.Reads as check-branches
 use Rattle.flow.proofs.check.check_branches.Kinds as check-branches-kinds
-use Rattle.flow.proofs.check.+check_asked+check_block+check_branch+check_branches+check_if+check_known+check_learnt+check_pair+check_query+check_stmt+check_transaction+check_while.Lts-check_branches as check-branches-lts
+use Rattle.flow.proofs.check.+check_block+check_branches+check_if+check_learnt+check_pair+check_query+check_stmt+check_transaction+check_while.Lts-check_branches as check-branches-lts
 use Rattle.flow.proofs.check.check_if.Reads as check-if
 use Rattle.flow.proofs.check.check_if.Kinds as check-if-kinds
-use Rattle.flow.proofs.check.+check_asked+check_block+check_branch+check_branches+check_if+check_known+check_learnt+check_pair+check_query+check_stmt+check_transaction+check_while.Lts-check_if as check-if-lts
-use Rattle.flow.proofs.check.check_known.Reads as check-known
-use Rattle.flow.proofs.check.check_known.Kinds as check-known-kinds
-use Rattle.flow.proofs.check.+check_asked+check_block+check_branch+check_branches+check_if+check_known+check_learnt+check_pair+check_query+check_stmt+check_transaction+check_while.Lts-check_known as check-known-lts
+use Rattle.flow.proofs.check.+check_block+check_branches+check_if+check_learnt+check_pair+check_query+check_stmt+check_transaction+check_while.Lts-check_if as check-if-lts
 use Rattle.flow.proofs.check.check_learnt.Reads as check-learnt
 use Rattle.flow.proofs.check.check_learnt.Kinds as check-learnt-kinds
-use Rattle.flow.proofs.check.+check_asked+check_block+check_branch+check_branches+check_if+check_known+check_learnt+check_pair+check_query+check_stmt+check_transaction+check_while.Lts-check_learnt as check-learnt-lts
+use Rattle.flow.proofs.check.+check_block+check_branches+check_if+check_learnt+check_pair+check_query+check_stmt+check_transaction+check_while.Lts-check_learnt as check-learnt-lts
 use Rattle.flow.proofs.check.check_pair.Reads as check-pair
 use Rattle.flow.proofs.check.check_pair.Kinds as check-pair-kinds
-use Rattle.flow.proofs.check.+check_asked+check_block+check_branch+check_branches+check_if+check_known+check_learnt+check_pair+check_query+check_stmt+check_transaction+check_while.Lts-check_pair as check-pair-lts
+use Rattle.flow.proofs.check.+check_block+check_branches+check_if+check_learnt+check_pair+check_query+check_stmt+check_transaction+check_while.Lts-check_pair as check-pair-lts
 use Rattle.flow.proofs.check.check_query.Reads as check-query
 use Rattle.flow.proofs.check.check_query.Kinds as check-query-kinds
-use Rattle.flow.proofs.check.+check_asked+check_block+check_branch+check_branches+check_if+check_known+check_learnt+check_pair+check_query+check_stmt+check_transaction+check_while.Lts-check_query as check-query-lts
+use Rattle.flow.proofs.check.+check_block+check_branches+check_if+check_learnt+check_pair+check_query+check_stmt+check_transaction+check_while.Lts-check_query as check-query-lts
 use Rattle.flow.proofs.check.check_stmt.Reads as check-stmt
 use Rattle.flow.proofs.check.check_stmt.Kinds as check-stmt-kinds
-use Rattle.flow.proofs.check.+check_asked+check_block+check_branch+check_branches+check_if+check_known+check_learnt+check_pair+check_query+check_stmt+check_transaction+check_while.Lts-check_stmt as check-stmt-lts
+use Rattle.flow.proofs.check.+check_block+check_branches+check_if+check_learnt+check_pair+check_query+check_stmt+check_transaction+check_while.Lts-check_stmt as check-stmt-lts
 use Rattle.flow.proofs.check.check_transaction.Reads as check-transaction
 use Rattle.flow.proofs.check.check_transaction.Kinds as check-transaction-kinds
-use Rattle.flow.proofs.check.+check_asked+check_block+check_branch+check_branches+check_if+check_known+check_learnt+check_pair+check_query+check_stmt+check_transaction+check_while.Lts-check_transaction as check-transaction-lts
+use Rattle.flow.proofs.check.+check_block+check_branches+check_if+check_learnt+check_pair+check_query+check_stmt+check_transaction+check_while.Lts-check_transaction as check-transaction-lts
 use Rattle.flow.proofs.check.check_while.Reads as check-while
 use Rattle.flow.proofs.check.check_while.Kinds as check-while-kinds
-use Rattle.flow.proofs.check.+check_asked+check_block+check_branch+check_branches+check_if+check_known+check_learnt+check_pair+check_query+check_stmt+check_transaction+check_while.Lts-check_while as check-while-lts
+use Rattle.flow.proofs.check.+check_block+check_branches+check_if+check_learnt+check_pair+check_query+check_stmt+check_transaction+check_while.Lts-check_while as check-while-lts
 use Rattle.flow.proofs.check.check_assign.Reads as check-assign-reads
 use Rattle.flow.proofs.check.check_update.Reads as check-update-reads
 use Rattle.flow.proofs.check.entered.Reads as entered-reads
-use Rattle.flow.proofs.check.learnt.Reads as learnt-reads
 use Rattle.flow.proofs.context.with_labels.Reads as with-labels-reads
 use Rattle.flow.proofs.context.with_named.Reads as with-named-reads
 use Rattle.flow.proofs.context.within.Reads as within-reads
+use Rattle.flow.proofs.lists.is_known.Reads as is-known-reads
 use Rattle.flow.proofs.lists.is_listed.Reads as is-listed-reads
-use Rattle.flow.proofs.lists.named_roles.Reads as named-roles-reads
 use Rattle.flow.proofs.lists.query_at.Reads as query-at-reads
+use Rattle.flow.proofs.lists.query_roles.Reads as query-roles-reads
 use Rattle.gathered.proofs.labels.expr_labels.Reads as expr-labels-reads
 use Rattle.gathered.proofs.positions.after_list.Reads as after-list-reads
 use Rattle.gathered.proofs.positions.ahead.Reads as ahead-reads
 use Rattle.gathered.proofs.positions.statement_at.Reads as statement-at-reads
-use Rattle.order.proofs.learn.is_known.Reads as is-known-reads
+use Rattle.order.proofs.learn.learn.Reads as learn-reads
 use Rattle.policy.proofs.rows.roles_of.Reads as roles-of-reads
 use Rattle.shared.proofs.bytes.byte_at.Reads as byte-at-reads
-use Rattle.flow.proofs.check.+check_asked+check_block+check_branch+check_branches+check_if+check_known+check_learnt+check_pair+check_query+check_stmt+check_transaction+check_while.{
+use Rattle.flow.proofs.check.+check_block+check_branches+check_if+check_learnt+check_pair+check_query+check_stmt+check_transaction+check_while.{
   statement,
 }
-use Rattle.flow.proofs.check.+check_asked+check_block+check_branch+check_branches+check_if+check_known+check_learnt+check_pair+check_query+check_stmt+check_transaction+check_while.Tie.{
+use Rattle.flow.proofs.check.+check_block+check_branches+check_if+check_learnt+check_pair+check_query+check_stmt+check_transaction+check_while.Tie.{
   close,
 }
 
-abbrev μ-check-asked : Measures 3 check-asked-kinds.ps ℕ
-μ-check-asked κs a = 7 * a .1 .1 .1 .1 .0 + 6
-
 abbrev μ-check-block : Measures 3 check-block-kinds.ps ℕ
-μ-check-block κs a = 7 * a .1 .1 .1 .1 .0
+μ-check-block κs a = 5 * a .1 .1 .1 .1 .0
 
-abbrev μ-check-branch : Measures 3 check-branch-kinds.ps ℕ
-μ-check-branch κs a = 7 * a .1 .1 .1 .1 .0 + 4
-
-abbrev μ-check-branches : Measures 3 check-branches-kinds.ps ℕ
-μ-check-branches κs a = 7 * a .1 .1 .1 .1 .0 + 5
+abbrev μ-check-branches : Measures 4 check-branches-kinds.ps ℕ
+μ-check-branches κs a = 5 * a .1 .1 .1 .1 .1 .0 + 2
 
 abbrev μ-check-if : Measures 3 check-if-kinds.ps ℕ
-μ-check-if κs a = 7 * a .1 .1 .1 .1 .0
-
-abbrev μ-check-known : Measures 3 check-known-kinds.ps ℕ
-μ-check-known κs a = 7 * a .1 .1 .1 .1 .0 + 3
+μ-check-if κs a = 5 * a .1 .1 .1 .1 .0
 
 abbrev μ-check-learnt : Measures 3 check-learnt-kinds.ps ℕ
-μ-check-learnt κs a = 7 * a .1 .1 .1 .1 .0 + 2
+μ-check-learnt κs a = 5 * a .1 .1 .1 .1 .0 + 3
 
 abbrev μ-check-pair : Measures 3 check-pair-kinds.ps ℕ
-μ-check-pair κs a = 7 * a .1 .1 .1 .1 .0 + 2
+μ-check-pair κs a = 5 * a .1 .1 .1 .1 .0 + 2
 
 abbrev μ-check-query : Measures 3 check-query-kinds.ps ℕ
-μ-check-query κs a = 7 * a .1 .1 .1 .1 .0
+μ-check-query κs a = 5 * a .1 .1 .1 .1 .0
 
 abbrev μ-check-stmt : Measures 3 check-stmt-kinds.ps ℕ
-μ-check-stmt κs a = 7 * a .1 .1 .1 .1 .0 + 1
+μ-check-stmt κs a = 5 * a .1 .1 .1 .1 .0 + 1
 
 abbrev μ-check-transaction : Measures 3 check-transaction-kinds.ps ℕ
-μ-check-transaction κs a = 7 * a .1 .1 .1 .1 .0
+μ-check-transaction κs a = 5 * a .1 .1 .1 .1 .0
 
 abbrev μ-check-while : Measures 3 check-while-kinds.ps ℕ
-μ-check-while κs a = 7 * a .1 .1 .1 .1 .0
-
-abbrev check-asked-at : ℕ → In 3 check-asked-kinds.ps
-check-asked-at t =
-    and 3 check-asked-kinds.ps (is 3 check-asked-kinds.ps μ-check-asked t) check-asked.Pre
-
-abbrev check-asked-below : ℕ → In 3 check-asked-kinds.ps
-check-asked-below t =
-    and 3 check-asked-kinds.ps (falls 3 check-asked-kinds.ps _<_ μ-check-asked t) check-asked.Pre
+μ-check-while κs a = 5 * a .1 .1 .1 .1 .0
 
 abbrev check-block-at : ℕ → In 3 check-block-kinds.ps
 check-block-at t =
@@ -117,32 +91,20 @@ abbrev check-block-below : ℕ → In 3 check-block-kinds.ps
 check-block-below t =
     and 3 check-block-kinds.ps (falls 3 check-block-kinds.ps _<_ μ-check-block t) check-block.Pre
 
-abbrev check-branch-at : ℕ → In 3 check-branch-kinds.ps
-check-branch-at t =
-    and 3 check-branch-kinds.ps (is 3 check-branch-kinds.ps μ-check-branch t) check-branch.Pre
-
-abbrev check-branch-below : ℕ → In 3 check-branch-kinds.ps
-check-branch-below t =
-    and
-    3
-    check-branch-kinds.ps
-    (falls 3 check-branch-kinds.ps _<_ μ-check-branch t)
-    check-branch.Pre
-
-abbrev check-branches-at : ℕ → In 3 check-branches-kinds.ps
+abbrev check-branches-at : ℕ → In 4 check-branches-kinds.ps
 check-branches-at t =
     and
-    3
+    4
     check-branches-kinds.ps
-    (is 3 check-branches-kinds.ps μ-check-branches t)
+    (is 4 check-branches-kinds.ps μ-check-branches t)
     check-branches.Pre
 
-abbrev check-branches-below : ℕ → In 3 check-branches-kinds.ps
+abbrev check-branches-below : ℕ → In 4 check-branches-kinds.ps
 check-branches-below t =
     and
-    3
+    4
     check-branches-kinds.ps
-    (falls 3 check-branches-kinds.ps _<_ μ-check-branches t)
+    (falls 4 check-branches-kinds.ps _<_ μ-check-branches t)
     check-branches.Pre
 
 abbrev check-if-at : ℕ → In 3 check-if-kinds.ps
@@ -151,14 +113,6 @@ check-if-at t = and 3 check-if-kinds.ps (is 3 check-if-kinds.ps μ-check-if t) c
 abbrev check-if-below : ℕ → In 3 check-if-kinds.ps
 check-if-below t =
     and 3 check-if-kinds.ps (falls 3 check-if-kinds.ps _<_ μ-check-if t) check-if.Pre
-
-abbrev check-known-at : ℕ → In 3 check-known-kinds.ps
-check-known-at t =
-    and 3 check-known-kinds.ps (is 3 check-known-kinds.ps μ-check-known t) check-known.Pre
-
-abbrev check-known-below : ℕ → In 3 check-known-kinds.ps
-check-known-below t =
-    and 3 check-known-kinds.ps (falls 3 check-known-kinds.ps _<_ μ-check-known t) check-known.Pre
 
 abbrev check-learnt-at : ℕ → In 3 check-learnt-kinds.ps
 check-learnt-at t =
@@ -226,46 +180,19 @@ check-block-Inv-loop policy program table context depth at inner left₀ next₀
 abbrev check-block-μ-loop : check-block-lts.MeasureT-loop
 check-block-μ-loop policy program table context depth at inner left₀ next₀ left next = left
 
-pub +check-asked+check-block+check-branch+check-branches+check-if+check-known+check-learnt+check-pair+check-query+check-stmt+check-transaction+check-while-spec :
+pub +check-block+check-branches+check-if+check-learnt+check-pair+check-query+check-stmt+check-transaction+check-while-spec :
     {M : Type 1} → statement M
-+check-asked+check-block+check-branch+check-branches+check-if+check-known+check-learnt+check-pair+check-query+check-stmt+check-transaction+check-while-spec =
++check-block+check-branches+check-if+check-learnt+check-pair+check-query+check-stmt+check-transaction+check-while-spec =
     close
-    μ-check-asked
     μ-check-block
-    μ-check-branch
     μ-check-branches
     μ-check-if
-    μ-check-known
     μ-check-learnt
     μ-check-pair
     μ-check-query
     μ-check-stmt
     μ-check-transaction
     μ-check-while
-    (λ t. check-asked-lts.spec (
-      ahead-reads.Asked,
-      ahead-reads.Learnt,
-      query-at-reads.Asked,
-      query-at-reads.Learnt,
-      named-roles-reads.Asked,
-      named-roles-reads.Learnt,
-      with-named-reads.Asked,
-      with-named-reads.Learnt,
-      check-branches-below t,
-      check-branches.Post,
-    )
-    (check-asked-at t)
-    check-asked.Post
-    (λ c κs. search needs)
-    (λ c κs. search needs)
-    (λ c. search needs)
-    (λ c. search needs)
-    (λ c. search (needs, askeds))
-    (λ c κs. search needs)
-    (λ c κs. search needs)
-    (λ c κs. search needs)
-    (λ c κs. search needs)
-    (λ c. search (needs, askeds)))
     (λ t. check-block-lts.spec (
       ahead-reads.Asked,
       ahead-reads.Learnt,
@@ -291,20 +218,8 @@ pub +check-asked+check-block+check-branch+check-branches+check-if+check-known+ch
     (λ c. search needs)
     (λ c. search (needs, blocks))
     (λ c. search (needs, blocks)))
-    (λ t. check-branch-lts.spec (
-      check-known-below t,
-      check-known.Post,
-      check-stmt-below t,
-      check-stmt.Post,
-    )
-    (check-branch-at t)
-    check-branch.Post
-    (λ c κs. search needs)
-    (λ c. search (needs, one-branch))
-    (λ c κs. search needs)
-    (λ c. search (needs, one-branch)))
     (λ t. check-branches-lts.spec
-    (check-branch-below t, check-branch.Post)
+    (check-stmt-below t, check-stmt.Post)
     (check-branches-at t)
     check-branches.Post
     (λ c κs. search needs)
@@ -331,35 +246,27 @@ pub +check-asked+check-block+check-branch+check-branches+check-if+check-known+ch
     (λ c. search needs)
     (λ c κs. search needs)
     (λ c. search (needs, if-checked)))
-    (λ t. check-known-lts.spec (
-      is-known-reads.Asked,
-      is-known-reads.Learnt,
-      check-stmt-below t,
-      check-stmt.Post,
-      check-learnt-below t,
-      check-learnt.Post,
-    )
-    (check-known-at t)
-    check-known.Post
-    (λ c κs. search needs)
-    (λ c κs. search needs)
-    (λ c. search (needs, knowns))
-    (λ c κs. search needs)
-    (λ c. search (needs, knowns)))
     (λ t. check-learnt-lts.spec (
+      query-at-reads.Asked,
+      query-at-reads.Learnt,
       roles-of-reads.Asked,
       roles-of-reads.Learnt,
-      learnt-reads.Asked,
-      learnt-reads.Learnt,
-      check-stmt-below t,
-      check-stmt.Post,
+      learn-reads.Asked,
+      learn-reads.Learnt,
+      check-branches-below t,
+      check-branches.Post,
     )
     (check-learnt-at t)
     check-learnt.Post
     (λ c κs. search needs)
+    (λ c. search needs)
+    (λ c. search needs)
+    (λ c. search (needs, learnts))
+    (λ c. search needs)
+    (λ c κs. search needs)
     (λ c κs. search (needs, readies))
     (λ c κs. search (needs, readies))
-    (λ c. search (needs, knowns)))
+    (λ c. search (needs, learnts)))
     (λ t. check-pair-lts.spec
     (check-stmt-below t, check-stmt.Post)
     (check-pair-at t)
@@ -375,13 +282,28 @@ pub +check-asked+check-block+check-branch+check-branches+check-if+check-known+ch
       ahead-reads.Learnt,
       is-listed-reads.Asked,
       is-listed-reads.Learnt,
-      check-asked-below t,
-      check-asked.Post,
+      query-roles-reads.Asked,
+      query-roles-reads.Learnt,
+      with-named-reads.Asked,
+      with-named-reads.Learnt,
+      is-known-reads.Asked,
+      is-known-reads.Learnt,
+      check-branches-below t,
+      check-branches.Post,
+      check-learnt-below t,
+      check-learnt.Post,
     )
     (check-query-at t)
     check-query.Post
     (λ c κs. search needs)
     (λ c κs. search needs)
+    (λ c κs. search needs)
+    (λ c κs. search needs)
+    (λ c κs. search needs)
+    (λ c κs. search needs)
+    (λ c. search needs)
+    (λ c κs. search needs)
+    (λ c. search (needs, queries))
     (λ c. search needs)
     (λ c κs. search needs)
     (λ c. search (needs, queries))
