@@ -1,6 +1,10 @@
 /* The calls of the proved RX library. Every call takes every input: a pointer must point to as many bytes as the length
    beside it says (any pointer where the length is 0, a null pointer too), and a result pointer to a word that may be
-   written. No call writes to a policy or a program. */
+   written. No call writes to a policy or a program.
+
+   Threads: no call keeps anything between calls, so any number of threads may call at once, also on the same policy and
+   program. Stack: a thread that calls rx_policy or rx_meaning needs 32 KiB, one that calls rx_program, rx_place or
+   rx_transaction 128 KiB (measured on the deepest programs: 100 KB). */
 #ifndef RX_H
 #define RX_H
 

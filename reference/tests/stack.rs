@@ -1,0 +1,98 @@
+//! The library on the deepest programs, in threads with no more stack than `include/rx.h` says that
+//! a call needs: a call that took more would end the test's process.
+
+use std::thread;
+
+use reference::generate;
+use reference::policy::{Policy, Row};
+use reference::proved;
+use reference::proved_program;
+
+/// What `include/rx.h` states: for the calls about a program, and for those about a policy.
+const PROGRAM_STACK: usize = 128 * 1024;
+const POLICY_STACK: usize = 32 * 1024;
+
+/// 64 roles of which none is at most another, so that 16 queries between them are all new.
+fn policy() -> Vec<u8> {
+    let row = |name: u8| Row {
+        owner: 0,
+        name,
+        viewers: u32::MAX,
+        trusters: u32::MAX,
+        members: 0,
+        takes: 0,
+    };
+    generate::encode(&Policy { principals: 32, rows: (1..=64).map(row).collect() })
+}
+
+/// Mark, version, and one variable for everyone.
+fn head() -> Vec<u8> {
+    vec![0x52, 0x58, 0x50, 0x01, 0x00, 1, 0xFF, 0xFF]
+}
+
+/// v0 := a sum of v0 that is 16 deep.
+fn assignment() -> Vec<u8> {
+    let mut bytes = vec![0x01, 0];
+    bytes.extend([0x02; 15]);
+    bytes.extend([0x01, 0].repeat(16));
+    bytes
+}
+
+/// A transaction that lists 16 queries, 30 queries nested in it, and an assignment at depth 32. The
+/// first 16 of the nested queries are different, or all are the same.
+fn nested_queries(different: bool) -> Vec<u8> {
+    let mut bytes = head();
+    bytes.extend([0x07, 16]);
+    bytes.extend((0..16).flat_map(|role| [role, role + 1]));
+    for level in 0..30u8 {
+        let role = if different { level % 16 } else { 0 };
+        bytes.extend([0x05, role, role + 1]);
+    }
+    bytes.extend(assignment());
+    bytes.extend([0x00; 30]);
+    bytes
+}
+
+/// 31 of a statement nested, by its bytes before and after what it holds, around the assignment.
+fn nested(before: &[u8], after: &[u8]) -> Vec<u8> {
+    let mut bytes = head();
+    bytes.extend(before.repeat(31));
+    bytes.extend(assignment());
+    bytes.extend(after.repeat(31));
+    bytes
+}
+
+/// The call on a policy and a program, in a thread with so much stack.
+fn within<T: Send + 'static>(stack: usize, program: &[u8], call: fn(&[u8], &[u8]) -> T) -> T {
+    let (policy, program) = (policy(), program.to_vec());
+    let thread = thread::Builder::new().stack_size(stack);
+    thread.spawn(move || call(&policy, &program)).unwrap().join().unwrap()
+}
+
+#[test]
+fn programs() {
+    let body = (42, 30 * 3 + 49 + 30);
+    let cases = [
+        ("different queries", nested_queries(true), body),
+        ("the same query", nested_queries(false), body),
+        ("blocks", nested(&[0x02, 1], &[]), (0, 0)),
+        ("ifs", nested(&[0x03, 0x01, 0], &[0x00]), (0, 0)),
+        ("whiles", nested(&[0x04, 0x01, 0], &[]), (0, 0)),
+    ];
+    for (what, program, body) in cases {
+        let number = within(PROGRAM_STACK, &program, proved_program::program);
+        assert_eq!(number, 0, "{what}");
+        let verdict = within(PROGRAM_STACK, &program, proved_program::verdict);
+        assert_eq!(verdict, (0, 0), "{what}");
+        let first = |policy: &[u8], program: &[u8]| proved_program::transaction(policy, program, 0);
+        assert_eq!(within(PROGRAM_STACK, &program, first), (0, body), "{what}");
+    }
+}
+
+#[test]
+fn policies() {
+    let number = within(POLICY_STACK, &[], |policy, _| proved::policy(policy));
+    assert_eq!(number, 0);
+    let meaning = within(POLICY_STACK, &[], |policy, _| proved::meaning(policy, 63));
+    assert_eq!(meaning, (0, 0));
+}
