@@ -1,3 +1,5 @@
+-- The walk calls itself only with one less of depth, which is the measure; a law for each kind of expression puts the labels
+-- of its parts together.
 use Rattle.gathered.proofs.LabelLaws.{labels}
 use borrow.Author.Needs.{needs}
 use Prim.Native.Nat.{ℕ, _<_}

@@ -1,3 +1,4 @@
+-- The walk calls itself only with one less of depth, which is the measure; the second part starts where the first ends.
 use Rattle.gathered.proofs.PositionLaws.{ends}
 use borrow.Author.Needs.{needs}
 use Prim.Native.Nat.{ℕ, _<_}

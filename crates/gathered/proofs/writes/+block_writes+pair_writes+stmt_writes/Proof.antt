@@ -1,3 +1,5 @@
+-- A statement calls a part with one less of depth, and a part calls statements with what it was given: twice the depth, and
+-- one more in a part, falls at every call. A block's loop keeps that what is gathered, with what is left, is what all writes.
 use Rattle.gathered.proofs.WriteLaws.{Gathering, gatherings, pair-both, writes}
 use borrow.Author.Needs.{needs}
 use Prim.Native.Nat.{ℕ, _<_, _+_, _*_}

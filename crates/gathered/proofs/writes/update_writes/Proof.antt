@@ -1,3 +1,4 @@
+-- The loop keeps this: the roles gathered, with those of the mutations left to read, are the roles that the whole list mutates.
 use Rattle.gathered.proofs.WriteLaws.{Mutating, mutatings}
 use borrow.Author.Needs.{needs}
 use Rattle.gathered.proofs.writes.update_writes.Statement.{statement}

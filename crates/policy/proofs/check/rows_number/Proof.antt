@@ -6,7 +6,6 @@ use Rattle.policy.proofs.check.rows_number.Reads as reads
 use Rattle.policy.proofs.check.rows_number.Lts as lts
 use Rattle.policy.proofs.check.each_row_number.Reads as each-row-number-reads
 
--- src/check.rt:120:5
 each-row-number-requires : tie.Need-each-row-number-requires
 each-row-number-requires c κs = (search needs, search needs, seen-none _)
 

@@ -17,7 +17,6 @@ Inv-loop takes sets₀ n₀ sets n = (sets ≡ rounds takes sets₀ n) × ((n �
 abbrev μ-loop : tie.MeasureT-loop
 μ-loop takes sets₀ n₀ sets n = length takes - n
 
--- src/meaning.rt:62:5
 loop-again : tie.Need-loop-again Inv-loop μ-loop
 loop-again c = (search (needs, rounds-laws), (search (needs, rounds-laws), search (needs, rounds-laws)))
 

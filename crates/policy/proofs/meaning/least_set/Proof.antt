@@ -6,7 +6,6 @@ use Rattle.policy.proofs.meaning.least_set.Reads as reads
 use Rattle.policy.proofs.meaning.least_set.Lts as lts
 use Rattle.policy.proofs.meaning.least_sets.Reads as least-sets-reads
 
--- src/meaning.rt:113:5
 least-sets-requires : tie.Need-least-sets-requires
 least-sets-requires c κs = (search (needs, set-laws), search (needs, set-laws), search needs)
 

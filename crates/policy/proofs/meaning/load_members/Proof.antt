@@ -19,7 +19,6 @@ Inv-loop s sets₀ i₀ sets i = (i ≤ length sets) × ((length sets ≡ roles 
 abbrev μ-loop : tie.MeasureT-loop
 μ-loop s sets₀ i₀ sets i = length sets₀ - i
 
--- src/meaning.rt:77:5
 loop-again : tie.Need-loop-again Inv-loop μ-loop
 loop-again c = (simp length-set (omega arith), (simp length-set (omega arith), search (needs, column-laws)))
 

@@ -19,7 +19,6 @@ Inv-loop s words₀ i₀ words i = (i ≤ length words) × ((length words ≡ ro
 abbrev μ-loop : tie.MeasureT-loop
 μ-loop s words₀ i₀ words i = length words₀ - i
 
--- src/meaning.rt:89:5
 loop-again : tie.Need-loop-again Inv-loop μ-loop
 loop-again c = (simp length-set (omega arith), (simp length-set (omega arith), search (needs, column-laws)))
 

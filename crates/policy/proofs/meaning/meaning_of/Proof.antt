@@ -9,7 +9,6 @@ use Rattle.policy.proofs.meaning.least_set.Reads as least-set-reads
 use Rattle.policy.proofs.rows.roles_of.Reads as roles-of-reads
 use Rattle.shared.proofs.bytes.wide.Reads as wide-reads
 
--- src/meaning.rt:136:15
 least-set-requires : tie.Need-least-set-requires
 least-set-requires c κs = (search (needs, asked), search (needs, asked), search (needs, asked), search (needs, asked))
 

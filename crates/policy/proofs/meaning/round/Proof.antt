@@ -20,7 +20,6 @@ Inv-loop takes sets₀ grew₀ i₀ sets grew i = (i ≤ length sets) × ((lengt
 abbrev μ-loop : tie.MeasureT-loop
 μ-loop takes sets₀ grew₀ i₀ sets grew i = length sets₀ - i
 
--- src/meaning.rt:44:5
 loop-again : tie.Need-loop-again Inv-loop μ-loop
 loop-again c = (simp length-set (omega arith), (simp length-set (omega arith), (search (needs, round-laws), ⊎-elim (λ w. search (needs, round-laws)) (λ w. search (needs, round-laws)) (c .if1 .came))))
 

@@ -10,7 +10,6 @@ use Rattle.policy.proofs.rows.trusters_of.Reads as trusters-of-reads
 use Rattle.policy.proofs.rows.viewers_of.Reads as viewers-of-reads
 use Rattle.shared.proofs.sets.contains.Reads as contains-reads
 
--- src/rows.rt:53:1
 -- The law is named, so that a refusal says which of its premises is missing.
 returns-2 : tie.Need-returns-2
 returns-2 c =

@@ -5,7 +5,6 @@ use Rattle.shared.proofs.sets.all_below.Tie as tie
 use Rattle.shared.proofs.sets.all_below.Reads as reads
 use Rattle.shared.proofs.sets.all_below.Lts as lts
 
--- src/sets.rt:29:9
 returns : tie.Need-returns
 returns c = rw (shifted _ (c .if1 .taken))
 

@@ -5,7 +5,6 @@ use Rattle.shared.proofs.sets.without_lowest.Tie as tie
 use Rattle.shared.proofs.sets.without_lowest.Reads as reads
 use Rattle.shared.proofs.sets.without_lowest.Lts as lts
 
--- src/sets.rt:44:1
 returns : tie.Need-returns
 returns c = lowest-out (c .args .a) (search needs) (search needs)
 
