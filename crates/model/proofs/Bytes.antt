@@ -7,7 +7,7 @@ use native.Mathlib.Omega.{arith}
 use native.Mathlib.Nat.{mod-eq-of-lt, mod-one, pow-suc, one-le-pow, mul-comm}
 use lib.ListN.{length, set, length-set}
 use lib.Seq.{getD-set-same, getD-set-other}
-use lib.Arith.{mod-mul, digits-lt}
+use lib.Arith.{mod-mul}
 use Rattle.model.specs.Bytes.{byte, word, put, startsWith}
 
 -- equal bytes give equal words
@@ -15,11 +15,6 @@ pub word-bytes : (s t : List ℕ) (at n : ℕ) → ((i : ℕ) → i < n → byte
 unfolding word
 word-bytes s t at zero same = refl
 word-bytes s t at (suc n) same = rw (word-bytes s t at n (λ i l. same i (omega arith)), same n (omega arith))
-
-pub word-below : (s : List ℕ) (at n : ℕ) → ((i : ℕ) → byte s i < 256) → word s at n < 256 ^ n
-unfolding word
-word-below s at zero h = omega arith
-word-below s at (suc n) h = omega (arith, digits-lt (h (at + n)) (word-below s at n h))
 
 pub length-put : (s : List ℕ) (at n v : ℕ) → length (put s at n v) ≡ length s
 unfolding put

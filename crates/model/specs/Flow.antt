@@ -1,5 +1,5 @@
 -- The flow rules, once for both sides, and the verdict of a program under a policy.
-use Prim.Native.Nat.{ℕ, zero, suc, _+_, _-_, _*_}
+use Prim.Native.Nat.{ℕ, zero, suc, _-_}
 use mathlib.Core.List.{List, [], _∷_, _++_}
 use mathlib.Core.Bool.{Bool, true, false, cond, _&&_, _||_}
 use lib.Dec.{eqb}
@@ -8,7 +8,6 @@ use lib.Bits.{bitOr}
 use Rattle.model.specs.Limits.{roleLimit, variableLimit}
 use Rattle.model.specs.Number.{accepted, flowTransaction, flowGrant, flowReading, flowTrust, Verdict, fine, refused, require, orElse}
 use Rattle.model.specs.Sets.{has, with}
-use Rattle.model.specs.Bytes.{byte}
 use Rattle.model.specs.Policy.{Side, reading, trust, principals, roles, policyNumber}
 use Rattle.model.specs.Mutation.{Mutation, allowed}
 use Rattle.model.specs.Syntax.{of, everyone, Atom, role, fixed, Query, sameQuery, Expr, constant, variable, binary, Stmt, skip, assign, empty, block, if, while, query, update, transaction}

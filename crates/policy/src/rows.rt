@@ -3,7 +3,7 @@
 ghost use mathlib.Core.Path.{_≡_};
 ghost use Prim.Native.Nat.{_+_, _≤_};
 ghost use lib.ListN.{length};
-ghost use Rattle.model.specs.Limits.{headBytes, fieldBytes};
+ghost use Rattle.model.specs.Limits.{fieldBytes};
 ghost use Rattle.model.specs.Policy.{hasMark, principals, roles, rowAt, policyBytes, HasRow, owner, name, viewers, trusters, members, takes, mayTake, mayHold};
 use shared::bytes;
 use shared::limit;

@@ -117,12 +117,6 @@ model-code (fixed (of reading j)) = refl
 model-code (fixed (of trust j)) = refl
 model-code (fixed everyone) = refl
 
-pub code-model : (a : Atom) → codeAtom (modelAtom a) ≡ a
-code-model (Role j) = refl
-code-model (Viewers j) = refl
-code-model (Trusters j) = refl
-code-model Everyone = refl
-
 pub byte-atom : (m : ModelAtom) → AtomFits 64 m → atomOf (atomByte m) ≡ atom.Is (codeAtom m)
 byte-atom (role j) f = sym (is-role j f)
 byte-atom (fixed (of reading j)) f =

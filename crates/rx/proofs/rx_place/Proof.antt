@@ -2,9 +2,6 @@ use Rattle.rx.proofs.Laws.{answers}
 use borrow.Author.Needs.{needs}
 use Rattle.rx.proofs.rx_place.Statement.{statement}
 use Rattle.rx.proofs.rx_place.Tie as tie
-use Rattle.rx.proofs.rx_place.Reads as reads
-use Rattle.rx.proofs.rx_place.Lts as lts
-use Rattle.flow.proofs.verdict.program_verdict.Reads as program-verdict-reads
 
 pub rx-place-spec : {M : Type 1} → statement M
 rx-place-spec =

@@ -2,9 +2,6 @@ use Rattle.rx.proofs.Laws.{answers}
 use borrow.Author.Needs.{needs}
 use Rattle.rx.proofs.rx_program.Statement.{statement}
 use Rattle.rx.proofs.rx_program.Tie as tie
-use Rattle.rx.proofs.rx_program.Reads as reads
-use Rattle.rx.proofs.rx_program.Lts as lts
-use Rattle.flow.proofs.verdict.program_verdict.Reads as program-verdict-reads
 
 pub rx-program-spec : {M : Type 1} → statement M
 rx-program-spec =

@@ -2,10 +2,6 @@ use Rattle.rx.proofs.Laws.{answers}
 use borrow.Author.Needs.{needs}
 use Rattle.rx.proofs.rx_transaction.Statement.{statement}
 use Rattle.rx.proofs.rx_transaction.Tie as tie
-use Rattle.rx.proofs.rx_transaction.Reads as reads
-use Rattle.rx.proofs.rx_transaction.Lts as lts
-use Rattle.gathered.proofs.span.body_span.Reads as body-span-reads
-use Rattle.flow.proofs.verdict.program_verdict.Reads as program-verdict-reads
 
 pub rx-transaction-spec : {M : Type 1} → statement M
 rx-transaction-spec =

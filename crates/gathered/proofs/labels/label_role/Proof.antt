@@ -2,11 +2,6 @@ use Rattle.gathered.proofs.LabelLaws.{label-roles}
 use borrow.Author.Needs.{needs}
 use Rattle.gathered.proofs.labels.label_role.Statement.{statement}
 use Rattle.gathered.proofs.labels.label_role.Tie as tie
-use Rattle.gathered.proofs.labels.label_role.Reads as reads
-use Rattle.gathered.proofs.labels.label_role.Lts as lts
-use Rattle.program.proofs.codes.atom_of.Reads as atom-of-reads
-use Rattle.shared.proofs.bytes.wide.Reads as wide-reads
-use Rattle.shared.proofs.sets.single.Reads as single-reads
 
 pub label-role-spec : {M : Type 1} → statement M
 label-role-spec =

@@ -2,10 +2,6 @@ use Rattle.gathered.proofs.LabelLaws.{variable-words}
 use borrow.Author.Needs.{needs}
 use Rattle.gathered.proofs.labels.variable_labels.Statement.{statement}
 use Rattle.gathered.proofs.labels.variable_labels.Tie as tie
-use Rattle.gathered.proofs.labels.variable_labels.Reads as reads
-use Rattle.gathered.proofs.labels.variable_labels.Lts as lts
-use Rattle.gathered.proofs.labels.label_role.Reads as label-role-reads
-use Rattle.program.proofs.layout.label_of.Reads as label-of-reads
 
 pub variable-labels-spec : {M : Type 1} → statement M
 variable-labels-spec =

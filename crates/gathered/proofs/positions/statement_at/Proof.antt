@@ -2,10 +2,6 @@ use Rattle.gathered.proofs.PositionLaws.{statement-here}
 use borrow.Author.Needs.{needs}
 use Rattle.gathered.proofs.positions.statement_at.Statement.{statement}
 use Rattle.gathered.proofs.positions.statement_at.Tie as tie
-use Rattle.gathered.proofs.positions.statement_at.Reads as reads
-use Rattle.gathered.proofs.positions.statement_at.Lts as lts
-use Rattle.shared.proofs.bytes.byte_at.Reads as byte-at-reads
-use Rattle.program.proofs.codes.statement_of.Reads as statement-of-reads
 
 pub statement-at-spec : {M : Type 1} → statement M
 statement-at-spec = tie.close (tie.spec (λ c κs. search needs) (λ c κs. search needs) (λ c. search (needs, statement-here)))

@@ -3,12 +3,6 @@ use Rattle.gathered.proofs.WriteLaws.{Mutating, mutatings}
 use borrow.Author.Needs.{needs}
 use Rattle.gathered.proofs.writes.update_writes.Statement.{statement}
 use Rattle.gathered.proofs.writes.update_writes.Tie as tie
-use Rattle.gathered.proofs.writes.update_writes.Reads as reads
-use Rattle.gathered.proofs.writes.update_writes.Lts as lts
-use Rattle.gathered.proofs.positions.ahead.Reads as ahead-reads
-use Rattle.shared.proofs.bytes.byte_at.Reads as byte-at-reads
-use Rattle.shared.proofs.bytes.wide.Reads as wide-reads
-use Rattle.shared.proofs.sets.single.Reads as single-reads
 
 abbrev Inv-loop : tie.InvT-loop
 Inv-loop program at mutations₀ next₀ mutated₀ mutations next mutated = Mutating program at mutations next mutated

@@ -9,11 +9,6 @@ use Rattle.policy.proofs.RowLaws.{insides}
 use borrow.Author.Needs.{needs}
 use Rattle.policy.proofs.check.all_grants_number.Statement.{statement}
 use Rattle.policy.proofs.check.all_grants_number.Tie as tie
-use Rattle.policy.proofs.check.all_grants_number.Reads as reads
-use Rattle.policy.proofs.check.all_grants_number.Lts as lts
-use Rattle.policy.proofs.check.grants_number.Reads as grants-number-reads
-use Rattle.policy.proofs.check.takable_too.Reads as takable-too-reads
-use Rattle.policy.proofs.rows.takes_of.Reads as takes-of-reads
 
 abbrev Inv-loop : tie.InvT-loop
 Inv-loop s n takable₀ last₀ i₀ takable last i = (i ≤ n) × (last ≤ i) × (firstBelow (grantsNumber s) i ≡ 0) × Takable s last takable

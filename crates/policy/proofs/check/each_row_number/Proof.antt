@@ -9,9 +9,6 @@ use Rattle.policy.proofs.PairLaws.{seen-laws}
 use borrow.Author.Needs.{needs}
 use Rattle.policy.proofs.check.each_row_number.Statement.{statement}
 use Rattle.policy.proofs.check.each_row_number.Tie as tie
-use Rattle.policy.proofs.check.each_row_number.Reads as reads
-use Rattle.policy.proofs.check.each_row_number.Lts as lts
-use Rattle.policy.proofs.check.row_number.Reads as row-number-reads
 
 abbrev Inv-loop : tie.InvT-loop
 Inv-loop s n seen₀ i₀ seen i = (i ≤ n) × (firstBelow (rowNumber s) i ≡ 0) × Seen s seen i

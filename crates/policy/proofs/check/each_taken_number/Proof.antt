@@ -5,12 +5,6 @@ use Rattle.policy.proofs.RowLaws.{insides}
 use borrow.Author.Needs.{needs}
 use Rattle.policy.proofs.check.each_taken_number.Statement.{statement}
 use Rattle.policy.proofs.check.each_taken_number.Tie as tie
-use Rattle.policy.proofs.check.each_taken_number.Reads as reads
-use Rattle.policy.proofs.check.each_taken_number.Lts as lts
-use Rattle.policy.proofs.check.taken_number.Reads as taken-number-reads
-use Rattle.policy.proofs.rows.takes_of.Reads as takes-of-reads
-use Rattle.shared.proofs.sets.lowest.Reads as lowest-reads
-use Rattle.shared.proofs.sets.without_lowest.Reads as without-lowest-reads
 
 abbrev Inv-loop : tie.InvT-loop
 Inv-loop s i n rest₀ rest = Passed s i rest × Left s i rest

@@ -4,11 +4,6 @@ use Rattle.model.proofs.Rows.{row-inside}
 use borrow.Author.Needs.{needs}
 use Rattle.policy.proofs.check.row_number.Statement.{statement}
 use Rattle.policy.proofs.check.row_number.Tie as tie
-use Rattle.policy.proofs.check.row_number.Reads as reads
-use Rattle.policy.proofs.check.row_number.Lts as lts
-use Rattle.policy.proofs.check.owner_number.Reads as owner-number-reads
-use Rattle.policy.proofs.check.principal_number.Reads as principal-number-reads
-use Rattle.policy.proofs.pairs.pairs_number.Reads as pairs-number-reads
 
 pub row-number-spec : {M : Type 1} → statement M
 row-number-spec =

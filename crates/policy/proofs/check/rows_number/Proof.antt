@@ -2,9 +2,6 @@ use Rattle.policy.proofs.PairLaws.{seen-none}
 use borrow.Author.Needs.{needs}
 use Rattle.policy.proofs.check.rows_number.Statement.{statement}
 use Rattle.policy.proofs.check.rows_number.Tie as tie
-use Rattle.policy.proofs.check.rows_number.Reads as reads
-use Rattle.policy.proofs.check.rows_number.Lts as lts
-use Rattle.policy.proofs.check.each_row_number.Reads as each-row-number-reads
 
 each-row-number-requires : tie.Need-each-row-number-requires
 each-row-number-requires c κs = (search needs, search needs, seen-none _)

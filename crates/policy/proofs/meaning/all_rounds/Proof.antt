@@ -7,9 +7,6 @@ use Rattle.policy.proofs.MeaningLaws.{rounds-laws}
 use borrow.Author.Needs.{needs}
 use Rattle.policy.proofs.meaning.all_rounds.Statement.{statement}
 use Rattle.policy.proofs.meaning.all_rounds.Tie as tie
-use Rattle.policy.proofs.meaning.all_rounds.Reads as reads
-use Rattle.policy.proofs.meaning.all_rounds.Lts as lts
-use Rattle.policy.proofs.meaning.round.Reads as round-reads
 
 abbrev Inv-loop : tie.InvT-loop
 Inv-loop takes sets₀ n₀ sets n = (sets ≡ rounds takes sets₀ n) × ((n ≤ length sets) × (length sets ≡ length takes))

@@ -2,9 +2,6 @@ use Rattle.policy.proofs.MeaningLaws.{set-laws}
 use borrow.Author.Needs.{needs}
 use Rattle.policy.proofs.meaning.least_set.Statement.{statement}
 use Rattle.policy.proofs.meaning.least_set.Tie as tie
-use Rattle.policy.proofs.meaning.least_set.Reads as reads
-use Rattle.policy.proofs.meaning.least_set.Lts as lts
-use Rattle.policy.proofs.meaning.least_sets.Reads as least-sets-reads
 
 least-sets-requires : tie.Need-least-sets-requires
 least-sets-requires c κs = (search (needs, set-laws), search (needs, set-laws), search needs)

@@ -9,9 +9,6 @@ use Rattle.policy.proofs.MeaningLaws.{column-laws}
 use borrow.Author.Needs.{needs}
 use Rattle.policy.proofs.meaning.load_members.Statement.{statement}
 use Rattle.policy.proofs.meaning.load_members.Tie as tie
-use Rattle.policy.proofs.meaning.load_members.Reads as reads
-use Rattle.policy.proofs.meaning.load_members.Lts as lts
-use Rattle.policy.proofs.rows.members_of.Reads as members-of-reads
 
 abbrev Inv-loop : tie.InvT-loop
 Inv-loop s sets₀ i₀ sets i = (i ≤ length sets) × ((length sets ≡ roles s) × (take i sets ≡ column (members s) i))

@@ -9,9 +9,6 @@ use Rattle.policy.proofs.MeaningLaws.{column-laws}
 use borrow.Author.Needs.{needs}
 use Rattle.policy.proofs.meaning.load_takes.Statement.{statement}
 use Rattle.policy.proofs.meaning.load_takes.Tie as tie
-use Rattle.policy.proofs.meaning.load_takes.Reads as reads
-use Rattle.policy.proofs.meaning.load_takes.Lts as lts
-use Rattle.policy.proofs.rows.takes_of.Reads as takes-of-reads
 
 abbrev Inv-loop : tie.InvT-loop
 Inv-loop s words₀ i₀ words i = (i ≤ length words) × ((length words ≡ roles s) × (take i words ≡ column (takes s) i))

@@ -10,9 +10,6 @@ use Rattle.policy.proofs.MeaningLaws.{round-laws}
 use borrow.Author.Needs.{needs}
 use Rattle.policy.proofs.meaning.round.Statement.{statement}
 use Rattle.policy.proofs.meaning.round.Tie as tie
-use Rattle.policy.proofs.meaning.round.Reads as reads
-use Rattle.policy.proofs.meaning.round.Lts as lts
-use Rattle.policy.proofs.meaning.with_taken.Reads as with-taken-reads
 
 abbrev Inv-loop : tie.InvT-loop
 Inv-loop takes sets₀ grew₀ i₀ sets grew i = (i ≤ length sets) × ((length sets ≡ length takes) × ((sets ≡ steps takes sets₀ i) × Still grew sets₀ sets))

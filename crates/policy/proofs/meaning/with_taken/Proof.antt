@@ -8,10 +8,6 @@ use Rattle.policy.proofs.MeaningLaws.{unions}
 use borrow.Author.Needs.{needs}
 use Rattle.policy.proofs.meaning.with_taken.Statement.{statement}
 use Rattle.policy.proofs.meaning.with_taken.Tie as tie
-use Rattle.policy.proofs.meaning.with_taken.Reads as reads
-use Rattle.policy.proofs.meaning.with_taken.Lts as lts
-use Rattle.shared.proofs.sets.lowest.Reads as lowest-reads
-use Rattle.shared.proofs.sets.without_lowest.Reads as without-lowest-reads
 
 abbrev Inv-loop : tie.InvT-loop
 Inv-loop sets own row union₀ rest₀ union rest = (rest < 2 ^ length sets) × (bitOr union (gather sets rest (length sets)) ≡ bitOr own (gather sets row (length sets)))

@@ -2,9 +2,6 @@ use Rattle.policy.proofs.PairLaws.{marked-is}
 use borrow.Author.Needs.{needs}
 use Rattle.policy.proofs.pairs.is_marked.Statement.{statement}
 use Rattle.policy.proofs.pairs.is_marked.Tie as tie
-use Rattle.policy.proofs.pairs.is_marked.Reads as reads
-use Rattle.policy.proofs.pairs.is_marked.Lts as lts
-use Rattle.shared.proofs.sets.contains.Reads as contains-reads
 
 pub is-marked-spec : {M : Type 1} → statement M
 is-marked-spec =

@@ -2,11 +2,6 @@ use Rattle.policy.proofs.PairLaws.{pair-laws, length-mark}
 use borrow.Author.Needs.{needs}
 use Rattle.policy.proofs.pairs.pairs_number.Statement.{statement}
 use Rattle.policy.proofs.pairs.pairs_number.Tie as tie
-use Rattle.policy.proofs.pairs.pairs_number.Reads as reads
-use Rattle.policy.proofs.pairs.pairs_number.Lts as lts
-use Rattle.policy.proofs.pairs.is_marked.Reads as is-marked-reads
-use Rattle.policy.proofs.pairs.pair_of.Reads as pair-of-reads
-use Rattle.policy.proofs.pairs.set_mark.Reads as set-mark-reads
 
 pub pairs-number-spec : {M : Type 1} → statement M
 pairs-number-spec =

@@ -2,9 +2,6 @@ use Rattle.policy.proofs.PairLaws.{mark-is}
 use borrow.Author.Needs.{needs}
 use Rattle.policy.proofs.pairs.set_mark.Statement.{statement}
 use Rattle.policy.proofs.pairs.set_mark.Tie as tie
-use Rattle.policy.proofs.pairs.set_mark.Reads as reads
-use Rattle.policy.proofs.pairs.set_mark.Lts as lts
-use Rattle.shared.proofs.sets.single.Reads as single-reads
 
 pub set-mark-spec : {M : Type 1} → statement M
 set-mark-spec =

@@ -4,11 +4,6 @@ use Rattle.policy.proofs.RowLaws.{truster-decides, hold-laws}
 use borrow.Author.Needs.{needs}
 use Rattle.policy.proofs.rows.may_hold.Statement.{statement}
 use Rattle.policy.proofs.rows.may_hold.Tie as tie
-use Rattle.policy.proofs.rows.may_hold.Reads as reads
-use Rattle.policy.proofs.rows.may_hold.Lts as lts
-use Rattle.policy.proofs.rows.trusters_of.Reads as trusters-of-reads
-use Rattle.policy.proofs.rows.viewers_of.Reads as viewers-of-reads
-use Rattle.shared.proofs.sets.contains.Reads as contains-reads
 
 -- The law is named, so that a refusal says which of its premises is missing.
 returns-2 : tie.Need-returns-2

@@ -3,8 +3,6 @@ use native.Mathlib.Omega.{arith}
 use Rattle.policy.proofs.RowLaws.{row-fits, row-begins}
 use Rattle.policy.proofs.rows.row_at.Statement.{statement}
 use Rattle.policy.proofs.rows.row_at.Tie as tie
-use Rattle.policy.proofs.rows.row_at.Reads as reads
-use Rattle.policy.proofs.rows.row_at.Lts as lts
 
 mul-result : tie.Need-mul-result
 mul-result c = record { fits = omega (arith, row-fits _ _ (c .pre)) }

@@ -2,10 +2,6 @@ use Rattle.policy.proofs.RowLaws.{fields}
 use borrow.Author.Needs.{needs}
 use Rattle.policy.proofs.rows.trusters_of.Statement.{statement}
 use Rattle.policy.proofs.rows.trusters_of.Tie as tie
-use Rattle.policy.proofs.rows.trusters_of.Reads as reads
-use Rattle.policy.proofs.rows.trusters_of.Lts as lts
-use Rattle.policy.proofs.rows.row_at.Reads as row-at-reads
-use Rattle.shared.proofs.bytes.word32.Reads as word32-reads
 
 pub trusters-of-spec : {M : Type 1} → statement M
 trusters-of-spec = tie.close (tie.spec (λ c κs. search needs) (λ c. search needs) (λ c κs. search needs) (λ c. search (needs, fields)))

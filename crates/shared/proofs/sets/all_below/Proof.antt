@@ -2,8 +2,6 @@ use Rattle.shared.proofs.SetLaws.{shifted, pasts}
 use borrow.Author.Needs.{needs}
 use Rattle.shared.proofs.sets.all_below.Statement.{statement}
 use Rattle.shared.proofs.sets.all_below.Tie as tie
-use Rattle.shared.proofs.sets.all_below.Reads as reads
-use Rattle.shared.proofs.sets.all_below.Lts as lts
 
 returns : tie.Need-returns
 returns c = rw (shifted _ (c .if1 .taken))

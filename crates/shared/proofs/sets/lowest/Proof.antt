@@ -5,8 +5,6 @@ use native.Mathlib.Omega.{arith}
 use borrow.Author.Needs.{needs}
 use Rattle.shared.proofs.sets.lowest.Statement.{statement}
 use Rattle.shared.proofs.sets.lowest.Tie as tie
-use Rattle.shared.proofs.sets.lowest.Reads as reads
-use Rattle.shared.proofs.sets.lowest.Lts as lts
 
 cast-result : tie.Need-cast-result
 cast-result c = record { fits = omega (arith, trailing-le 64 (c .args .a)) }

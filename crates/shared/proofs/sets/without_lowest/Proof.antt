@@ -2,8 +2,6 @@ use Rattle.shared.proofs.SetLaws.{lowest-out}
 use borrow.Author.Needs.{needs}
 use Rattle.shared.proofs.sets.without_lowest.Statement.{statement}
 use Rattle.shared.proofs.sets.without_lowest.Tie as tie
-use Rattle.shared.proofs.sets.without_lowest.Reads as reads
-use Rattle.shared.proofs.sets.without_lowest.Lts as lts
 
 returns : tie.Need-returns
 returns c = lowest-out (c .args .a) (search needs) (search needs)
