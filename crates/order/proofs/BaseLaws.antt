@@ -27,7 +27,8 @@ use Rattle.model.proofs.Truth.{same-truth}
 use Rattle.shared.specs.Words.{single}
 use Rattle.shared.proofs.SetLaws.{single-is}
 use Rattle.order.specs.declared.table.Row.{Row}
-use Rattle.order.specs.Table.{viewersAt, trustersAt, everyoneAt, tableWords, rowOf, rowIn, putRow, holds, union, withRole, rowHas, Knows, sideOf}
+use Rattle.program.specs.Layout.{sideOf}
+use Rattle.order.specs.Table.{viewersAt, trustersAt, everyoneAt, tableWords, rowOf, rowIn, putRow, holds, union, withRole, rowHas, Knows}
 use Rattle.order.specs.Base.{Loaded, WordsOf, holders, fixedRow, RoleRows, Based}
 use Rattle.order.proofs.TableLaws.{put-long, put-same, put-other, holds-union}
 

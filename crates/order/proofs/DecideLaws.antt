@@ -16,7 +16,8 @@ use Rattle.model.proofs.Order.{test-derivable, derivable-test, join-derivable, 
 use Rattle.program.specs.declared.codes.Atom.{Atom as CodeAtom}
 use Rattle.program.specs.Codes.{modelAtom}
 use Rattle.order.specs.declared.table.Row.{Row}
-use Rattle.order.specs.Table.{rowOf, indexOf, rowIn, watched, holds, Knows, Joins, JoinBelow, sideOf, Decides}
+use Rattle.program.specs.Layout.{sideOf}
+use Rattle.order.specs.Table.{rowOf, indexOf, rowIn, watched, holds, Knows, Joins, JoinBelow, Decides}
 use Rattle.order.proofs.TableLaws.{index-is}
 
 -- a join is at most b exactly when each of its atoms is

@@ -2,7 +2,7 @@
 use Prim.Native.Nat.{ℕ, _+_, _*_}
 use mathlib.Core.Path.{_≡_}
 use mathlib.Core.List.{List, [], _∷_, List·Memᴰ}
-use mathlib.Core.Bool.{Bool, true, false, cond}
+use mathlib.Core.Bool.{Bool, true, cond}
 use lib.Dec.{ltb}
 use lib.ListN.{length, getD, set}
 use lib.Bits.{bitOr}
@@ -113,11 +113,6 @@ queryRoles q = bitOr (namedRole (q .first)) (namedRole (q .second))
 unfoldable pub listRoles : List Query → ℕ
 listRoles [] = 0
 listRoles (q ∷ qs) = bitOr (queryRoles q) (listRoles qs)
-
--- the side that a flag names
-abbrev pub sideOf : Bool → Side
-sideOf true = trust
-sideOf false = reading
 
 -- the query of two atoms of the code
 abbrev pub queryOf : CodeAtom → CodeAtom → Query

@@ -2,7 +2,8 @@
 ghost use mathlib.Core.Path.{_≡_};
 ghost use lib.ListN.{length};
 ghost use Rattle.program.specs.Codes.{modelAtom};
-ghost use Rattle.order.specs.Table.{tableWords, sideOf, Decides};
+ghost use Rattle.program.specs.Layout.{sideOf};
+ghost use Rattle.order.specs.Table.{tableWords, Decides};
 use super::table;
 use program::codes::Atom;
 use shared::sets;

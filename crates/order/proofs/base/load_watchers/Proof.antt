@@ -1,6 +1,6 @@
 -- The loop's invariant: the words of the roles passed are their watchers.
 use Rattle.model.specs.Limits.{roleLimit}
-use Rattle.order.specs.Table.{sideOf}
+use Rattle.program.specs.Layout.{sideOf}
 use Rattle.order.specs.Base.{Loaded}
 use Prim.Native.Nat.{_≤_, _-_}
 use Rattle.order.proofs.BaseLaws.{facts, loads}
