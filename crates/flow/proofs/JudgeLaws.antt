@@ -18,7 +18,8 @@ use Rattle.model.specs.Flow.{labelAtom, label, eachIn}
 use Rattle.model.proofs.Accepted.{accepted-facts}
 use Rattle.model.proofs.Sets.{has-zero, has-without, without-has}
 use Rattle.model.proofs.Truth.{same-truth}
-use Rattle.order.specs.Table.{sideOf, Decides}
+use Rattle.program.specs.Layout.{sideOf}
+use Rattle.order.specs.Table.{Decides}
 use Rattle.program.specs.declared.codes.Atom.{Atom as CodeAtom}
 use Rattle.program.specs.declared.codes.Atom.the-variants.{Viewers, Trusters}
 use Rattle.program.specs.declared.codes.AtomOf.{AtomOf}

@@ -1,7 +1,7 @@
 // What surrounds a statement on the check's way, as one value: the transaction around it, with the flag that forbids nesting,
 // and the context of each side. A context is a join of labels, carried as two words.
 ghost use mathlib.Core.Path.{_≡_};
-ghost use Rattle.order.specs.Table.{sideOf};
+ghost use Rattle.program.specs.Layout.{sideOf};
 ghost use Rattle.flow.specs.Context.{noTransaction, noLabels, joinWith, noContext, withLabels, withNamed, within, joinOf};
 use gathered::labels::Labels;
 

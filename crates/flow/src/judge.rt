@@ -3,7 +3,8 @@
 ghost use mathlib.Core.Path.{_≡_};
 ghost use lib.ListN.{length};
 ghost use Rattle.model.specs.Syntax.{of, fixed};
-ghost use Rattle.order.specs.Table.{tableWords, sideOf};
+ghost use Rattle.program.specs.Layout.{sideOf};
+ghost use Rattle.order.specs.Table.{tableWords};
 ghost use Rattle.program.specs.Codes.{modelAtom};
 ghost use Rattle.flow.specs.Judge.{sidesNumber, TargetAt, BelowAtom, OneBelow, AllBelow, MayWrite, WriteNumber, AssignNumber};
 use super::context;

@@ -1,5 +1,5 @@
 use Rattle.flow.proofs.JudgeLaws.{Left, alls, fewer}
-use Rattle.order.specs.Table.{sideOf}
+use Rattle.program.specs.Layout.{sideOf}
 use borrow.Author.Needs.{needs}
 use Rattle.flow.proofs.judge.all_below.Statement.{statement}
 use Rattle.flow.proofs.judge.all_below.Tie as tie
