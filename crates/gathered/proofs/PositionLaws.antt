@@ -6,9 +6,10 @@ use native.Mathlib.Omega.{arith}
 use native.Mathlib.Nat.{mul-le-mul}
 use mir.Val.{Fits}
 use mir.Syntax.{w64}
-use lib.ListN.{length, List·getD-eq-default}
+use lib.ListN.{length}
 use borrow.Author.Tests.{le-leb, lt-leb}
 use Rattle.model.specs.Bytes.{byte}
+use Rattle.shared.proofs.ByteLaws.{byte-past}
 use Rattle.gathered.specs.Positions.{ahead, afterList, ExprEnds}
 use Rattle.model.proofs.Standing.{operatorCode, expr-deep, expr-there, expr-known, constant-parts, variable-parts, binary-parts}
 use Rattle.program.specs.declared.codes.Operator.{Operator}
@@ -22,9 +23,6 @@ use Rattle.program.specs.declared.codes.KindOf.{KindOf}
 use Rattle.program.specs.declared.codes.StatementOf.{StatementOf}
 use Rattle.program.specs.Codes.{statementOf, atomOf, kindOf, expressionOf, operatorByte, expressionByte, modelOperator}
 use Rattle.program.proofs.CodeLaws.{expression-byte, expression-none}
-
-pub byte-past : (p : List ℕ) (at : ℕ) → length p ≤ at → 0 ≡ byte p at
-byte-past p at h = sym (List·getD-eq-default p 0 h)
 
 -- a position ahead
 module _ (p : List ℕ) (at n : ℕ) where

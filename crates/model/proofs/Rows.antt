@@ -5,8 +5,8 @@ use mathlib.Core.Path.{_≡_, refl}
 use mathlib.Core.List.{List}
 use lib.ListN.{length}
 use Rattle.model.specs.Limits.{headBytes, fieldBytes}
-use Rattle.model.specs.Policy.{version, roles, rowBytes, rowAt, policyBytes, HasRow, AcceptedHead}
-use Rattle.model.proofs.Accepted.{head-zero}
+use Rattle.model.specs.Policy.{version, roles, rowBytes, rowAt, policyBytes, HasRow, AcceptedHead, Accepted}
+use Rattle.model.proofs.Accepted.{head-zero, accepted-head}
 
 module _ (s : List ℕ) where
   -- a row has room for its fields
@@ -36,6 +36,10 @@ module _ (s : List ℕ) where
   pub head-apart : (i : ℕ) → headBytes ≤ rowAt s i
   unfolding rowAt
   head-apart i = omega arith
+
+-- each role of an accepted policy, counted as n, has its row
+pub accepted-row : (s : List ℕ) → Accepted s → (n i : ℕ) → n ≡ roles s → i < n → HasRow s i
+accepted-row s ok n i e l = row-inside s (accepted-head s ok) i (rw e at l)
 
 -- where rows stand is by the version
 module _ (a b : List ℕ) (same : version a ≡ version b) where

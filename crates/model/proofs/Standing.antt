@@ -8,7 +8,7 @@ use mathlib.Core.Bool.{Bool, true, false, cond}
 use native.Mathlib.Omega.{arith}
 use lib.Dec.{eqb, ltb, leb}
 use lib.ListN.{length}
-use borrow.Author.Tests.{ltb-true, ltb-false, leb-true, leb-false, eqb-true, ne-eqb}
+use borrow.Author.Tests.{ltb-true, ltb-false, leb-true, eqb-true, ne-eqb}
 use Rattle.model.specs.Limits.{expressionDepth, listLimit}
 use Rattle.model.specs.Number.{programRange}
 use Rattle.model.specs.Bytes.{byte, word}
@@ -307,12 +307,11 @@ module _ (p : List ℕ) (vars d at : ℕ) {e : Expr} {end : ℕ} (h : readExpr p
   -- a byte that is no code gives nothing
   pub expr-known : byte p at ≤ 7
   unfolding exprAt
-  expr-known = go (leb (byte p at) 7) refl
-    where
-      go : (b : Bool) → leb (byte p at) 7 ≡ b → byte p at ≤ 7
-      go true e = leb-true _ _ e
-      go false e = let n = past-codes (byte p at) (leb-false _ _ e) in
-          absurd (refused-not (simp (n 0 (omega arith), n 1 (omega arith), n 2 (omega arith), n 3 (omega arith), n 4 (omega arith), n 5 (omega arith), n 6 (omega arith), n 7 (omega arith)) at (expr-coded .2)))
+  expr-known =
+      let no : 7 < byte p at → ⊥ = λ l.
+      let n = past-codes (byte p at) l in
+      refused-not (simp (n 0 (omega arith), n 1 (omega arith), n 2 (omega arith), n 3 (omega arith), n 4 (omega arith), n 5 (omega arith), n 6 (omega arith), n 7 (omega arith)) at (expr-coded .2)) in
+      omega arith
 
 -- statements
 pub record AssignParts (p : List ℕ) (vars at : ℕ) (x : Stmt) (end : ℕ) : Type 0 where
@@ -527,9 +526,8 @@ module _ (p : List ℕ) (P R vars d at : ℕ) {x : Stmt} {end : ℕ} (h : readSt
   -- a byte that is no code gives nothing
   pub stmt-known : byte p at ≤ 7
   unfolding stmtAt
-  stmt-known = go (leb (byte p at) 7) refl
-    where
-      go : (b : Bool) → leb (byte p at) 7 ≡ b → byte p at ≤ 7
-      go true e = leb-true _ _ e
-      go false e = let n = past-codes (byte p at) (leb-false _ _ e) in
-          absurd (refused-not (simp (n 0 (omega arith), n 1 (omega arith), n 2 (omega arith), n 3 (omega arith), n 4 (omega arith), n 5 (omega arith), n 6 (omega arith), n 7 (omega arith)) at (stmt-coded .2)))
+  stmt-known =
+      let no : 7 < byte p at → ⊥ = λ l.
+      let n = past-codes (byte p at) l in
+      refused-not (simp (n 0 (omega arith), n 1 (omega arith), n 2 (omega arith), n 3 (omega arith), n 4 (omega arith), n 5 (omega arith), n 6 (omega arith), n 7 (omega arith)) at (stmt-coded .2)) in
+      omega arith

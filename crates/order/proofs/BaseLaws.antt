@@ -14,15 +14,15 @@ use lib.Seq.{getD-set-same, getD-set-other}
 use borrow.Author.Tests.{eq-eqb}
 use Rattle.model.specs.Limits.{headBytes, roleLimit}
 use Rattle.model.specs.Sets.{has, within, with}
-use Rattle.model.specs.Policy.{Side, reading, trust, principals, roles, HasRow, viewers, trusters, watchers, Accepted}
+use Rattle.model.specs.Policy.{Side, reading, trust, principals, roles, viewers, trusters, watchers, Accepted}
 use Rattle.model.specs.Syntax.{Fixed, of, everyone, Atom, role, fixed}
 use Rattle.model.specs.Order.{fixedSet, includes, base, atMost}
 use Rattle.model.proofs.Below.{last-or}
 use Rattle.model.proofs.Meaning.{watchers-below}
 use Rattle.model.proofs.Sets.{has-zero, has-with, has-with-same, with-has, has-power}
 use Rattle.model.specs.Fits.{AtomFits}
-use Rattle.model.proofs.Accepted.{accepted-head, accepted-facts}
-use Rattle.model.proofs.Rows.{row-inside}
+use Rattle.model.proofs.Accepted.{accepted-facts}
+use Rattle.model.proofs.Rows.{accepted-row}
 use Rattle.model.proofs.Truth.{same-truth}
 use Rattle.shared.specs.Words.{single}
 use Rattle.shared.proofs.SetLaws.{single-is}
@@ -101,12 +101,8 @@ module _ (s : List ℕ) (ok : Accepted s) where
   pub principals-few : (m n : ℕ) → m ≡ principals s → n ≡ m → n < 64
   principals-few m n d e = omega (arith, accepted-facts s ok .principals-fit)
 
-  module _ (n : ℕ) (e : n ≡ roles s) where
-    pub roles-few : n ≤ roleLimit
-    roles-few = omega (arith, accepted-facts s ok .roles-fit)
-
-    pub row-there : (j : ℕ) → j < n → HasRow s j
-    row-there j l = row-inside s (accepted-head s ok) j (rw e at l)
+  pub roles-few : (n : ℕ) → n ≡ roles s → n ≤ roleLimit
+  roles-few n e = omega (arith, accepted-facts s ok .roles-fit)
 
 -- a role is among the holders exactly when the set lies in its word
 module _ (w : List ℕ) (low : ℕ) where
@@ -258,6 +254,6 @@ pub knows-none : (s t : List ℕ) (n j : ℕ) → n ≡ roles s → j ≤ n → 
 unfolding atMost
 knows-none s t n j e h k b = let r : j ≡ roles s = omega arith in record { long = b .long; decides = rw r at b .right }
 
-pub ruleset facts = (head-there, principals-few, roles-few, row-there)
+pub ruleset facts = (head-there, principals-few, roles-few, accepted-row)
 
 pub ruleset based = (based-none, based-more, knows-none)

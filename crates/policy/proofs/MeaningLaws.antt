@@ -12,13 +12,13 @@ use lib.Seq.{set-getD, take-suc-set, take-all, length-take-le}
 use borrow.Author.Tests.{lt-ltb, le-ltb, eq-eqb, ne-eqb}
 use Rattle.model.specs.Limits.{headBytes, roleLimit}
 use Rattle.model.specs.Sets.{has, without}
-use Rattle.model.specs.Policy.{roles, HasRow, members, takes, Accepted, policyNumber}
+use Rattle.model.specs.Policy.{roles, members, takes, Accepted, policyNumber}
 use Rattle.model.specs.Meaning.{gather, grown, steps, rounds, column, meanings, meaning, answer, meaningOf}
-use Rattle.model.proofs.Accepted.{accepted-head, accepted-facts}
+use Rattle.model.proofs.Accepted.{accepted-facts}
 use Rattle.model.proofs.Sets.{has-zero, has-or-l, has-or-r, or-has, same-sets, or-assoc, has-below, has-without, without-has, without-le}
 use Rattle.model.proofs.Least.{In, gather-has, has-gather, length-steps, column-length, column-at}
 use Rattle.shared.proofs.SetLaws.{next-without}
-use Rattle.policy.proofs.RowLaws.{row-of}
+use Rattle.model.proofs.Rows.{accepted-row}
 use Rattle.policy.proofs.TakesLaws.{same-or, smaller}
 use Rattle.policy.specs.Rounds.{Still, Fitting}
 
@@ -142,19 +142,15 @@ module _ (f : ℕ → ℕ) where
   pub column-done : (w : List ℕ) (i n : ℕ) → take i w ≡ column f i → length w ≡ n → i ≤ length w → length w ≤ i → w ≡ column f n
   column-done w i n e l h g = let k : i ≡ n = omega arith in sym (take-all i w g) ∙ e ∙ rw k
 
--- an accepted policy's rows are there, and take only roles that there are
-module _ (s : List ℕ) (ok : Accepted s) where
-  pub row-there : (n i : ℕ) → n ≡ roles s → i < n → HasRow s i
-  row-there = row-of s (accepted-head s ok)
+-- an accepted policy's rows take only roles that there are
+pub takes-fitting : (s : List ℕ) → Accepted s → (t : List ℕ) → t ≡ column (takes s) (roles s) → Fitting t
+unfolding Fitting
+takes-fitting s ok t e i l =
+    let n : length t ≡ roles s = ap length e ∙ column-length (takes s) (roles s) in
+    let k : i < roles s = omega arith in
+    rw (n, e, column-at (takes s) (roles s) i k) (accepted-facts s ok .row i k .takes-below)
 
-  pub takes-fitting : (t : List ℕ) → t ≡ column (takes s) (roles s) → Fitting t
-  unfolding Fitting
-  takes-fitting t e i l =
-      let n : length t ≡ roles s = ap length e ∙ column-length (takes s) (roles s) in
-      let k : i < roles s = omega arith in
-      rw (n, e, column-at (takes s) (roles s) i k) (accepted-facts s ok .row i k .takes-below)
-
-pub ruleset column-laws = (column-none, column-more, column-done, row-there)
+pub ruleset column-laws = (column-none, column-more, column-done, accepted-row)
 
 pub columns-same : (f g : ℕ → ℕ) (t w : List ℕ) (n : ℕ) → t ≡ column f n → w ≡ column g n → length w ≡ length t
 columns-same f g t w n p q = ap length q ∙ column-length g n ∙ sym (ap length p ∙ column-length f n)

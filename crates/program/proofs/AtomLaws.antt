@@ -9,9 +9,8 @@ use lib.ListN.{length}
 use borrow.Author.Tests.{lt-ltb, le-ltb, eq-eqb, ne-eqb}
 use Rattle.model.specs.Number.{programCode, programRange}
 use Rattle.model.specs.Bytes.{byte}
-use Rattle.model.specs.Policy.{reading, trust}
 use Rattle.model.specs.Mutation.{Mutation, addMember, deleteMember, addTaken, deleteTaken}
-use Rattle.model.specs.Syntax.{Atom as ModelAtom, role, fixed, of, everyone, atomByte}
+use Rattle.model.specs.Syntax.{Atom as ModelAtom, atomByte}
 use Rattle.model.specs.Fits.{AtomFits}
 use Rattle.model.specs.Program.{Read as Reading, got, bad, readBelow, atomAt, readAtom, readLabel, readQuery, mutationAt, readMutation}
 use Rattle.program.specs.declared.answer.Answer.{Answer}
@@ -26,7 +25,7 @@ use Rattle.program.specs.declared.codes.KindOf.{KindOf}
 use Rattle.program.specs.declared.codes.KindOf.the-variants as kind
 use Rattle.program.specs.Answer.{reached, stopped, reachedBy, endOf}
 use Rattle.program.specs.Codes.{atomOf, modelAtom, roleBelow, kindOf, modelKind, operandBound}
-use Rattle.program.proofs.CodeLaws.{atom-byte, atom-fits, none-high, none-everyone}
+use Rattle.program.proofs.CodeLaws.{through, atom-byte, atom-fits, none-high, none-everyone}
 use Rattle.program.proofs.AnswerLaws.{then-at, then-refused, then-last, byte-there, byte-missing}
 
 -- a byte below a bound
@@ -107,18 +106,10 @@ named R at next atom.No = bad programCode at
 
 by-name : (R at x next : ℕ) → atomAt R at x next ≡ named R at next (atomOf x)
 unfolding atomAt atomOf named roleBelow
-by-name R at x next = go (ltb x 0x40) (ltb x 0x80) (ltb x 0xc0) (eqb x 0xff)
-  where
-    go : (a b c d : Bool) → cond a (cond (ltb x R) (got (role x) next) (bad programRange at))
-        (cond b (cond (ltb (x - 0x40) R) (got (fixed (of reading (x - 0x40))) next) (bad programRange at))
-        (cond c (cond (ltb (x - 0x80) R) (got (fixed (of trust (x - 0x80))) next) (bad programRange at))
-        (cond d (got (fixed everyone) next) (bad programCode at))))
-        ≡ named R at next (cond a (atom.Is (Role x)) (cond b (atom.Is (Viewers (x - 0x40))) (cond c (atom.Is (Trusters (x - 0x80))) (cond d (atom.Is Everyone) atom.No))))
-    go true b c d = refl
-    go false true c d = refl
-    go false false true d = refl
-    go false false false true = refl
-    go false false false false = refl
+by-name R at x next =
+    let f = named R at next in
+    through f (ltb x 0x40) (atom.Is (Role x)) (through f (ltb x 0x80) (atom.Is (Viewers (x - 0x40)))
+    (through f (ltb x 0xc0) (atom.Is (Trusters (x - 0x80))) (through f (eqb x 0xff) (atom.Is Everyone) refl)))
 
 module _ (s : List ℕ) (R at : ℕ) where
   pub atom-missing : length s ≤ at → stopped 10 (length s) ≡ endOf (readAtom s R at)
@@ -167,16 +158,10 @@ by-kind : (s : List ℕ) (P R at x next : ℕ)
     (cond (eqb x 2) (mutationAt s R addTaken R next) (cond (eqb x 3) (mutationAt s R deleteTaken R next) (bad programCode at))))
     ≡ kinded s P R at next (kindOf x)
 unfolding kindOf kinded operandBound
-by-kind s P R at x next = go (eqb x 0) (eqb x 1) (eqb x 2) (eqb x 3)
-  where
-    go : (a b c d : Bool) → cond a (mutationAt s R addMember P next) (cond b (mutationAt s R deleteMember P next)
-        (cond c (mutationAt s R addTaken R next) (cond d (mutationAt s R deleteTaken R next) (bad programCode at))))
-        ≡ kinded s P R at next (cond a (kind.Is AddMember) (cond b (kind.Is DeleteMember) (cond c (kind.Is AddTaken) (cond d (kind.Is DeleteTaken) kind.No))))
-    go true b c d = refl
-    go false true c d = refl
-    go false false true d = refl
-    go false false false true = refl
-    go false false false false = refl
+by-kind s P R at x next =
+    let f = kinded s P R at next in
+    through f (eqb x 0) (kind.Is AddMember) (through f (eqb x 1) (kind.Is DeleteMember)
+    (through f (eqb x 2) (kind.Is AddTaken) (through f (eqb x 3) (kind.Is DeleteTaken) refl)))
 
 module _ (s : List ℕ) (P R at : ℕ) where
   pub mutation-missing : length s ≤ at → stopped 10 (length s) ≡ endOf (readMutation s P R at)

@@ -28,6 +28,11 @@ use Rattle.program.specs.declared.codes.StatementOf.{StatementOf}
 use Rattle.program.specs.declared.codes.StatementOf.the-variants as statement
 use Rattle.program.specs.Codes.{atomOf, modelAtom, codeAtom, roleBelow, kindOf, kindByte, operandBound, expressionOf, expressionByte, statementOf, statementByte}
 
+-- what is made of the answer to a test is what is made of each of its two answers
+pub through : {A B : Type 0} (f : A → B) (t : Bool) (x : A) {rest : A} {others : B} → others ≡ f rest → cond t (f x) others ≡ f (cond t x rest)
+through f true x e = refl
+through f false x e = e
+
 -- what a test of a byte leaves
 module _ {A : Type 0} (Q : A → Type 0) (b k : ℕ) (x rest : A) where
   equal-or : (b ≡ k → Q x) → ((b ≡ k → ⊥) → Q rest) → Q (cond (eqb b k) x rest)

@@ -2,7 +2,7 @@
 use mathlib.Core.Path.{_≡_, refl, _∙_}
 use Prim.Native.Nat.{ℕ, zero, suc, _+_, _-_, _<_, _≤_}
 use mathlib.Core.List.{List}
-use mathlib.Core.Bool.{Bool, true, false, cond}
+use mathlib.Core.Bool.{cond}
 use native.Mathlib.Omega.{arith}
 use native.Mathlib.Numerals.{sub-one}
 use lib.Dec.{eqb, leb}
@@ -10,7 +10,7 @@ use lib.ListN.{length}
 use borrow.Author.Tests.{le-leb, lt-leb}
 use Rattle.model.specs.Number.{programLength, programCode}
 use Rattle.model.specs.Bytes.{byte, word}
-use Rattle.model.specs.Syntax.{sum, difference, product, quotient, less, equal, Expr, constant, variable, binary}
+use Rattle.model.specs.Syntax.{Expr, constant, variable, binary}
 use Rattle.model.specs.Program.{Read as Reading, got, bad, andThen, readByte, readBelow, binaryAt, exprAt, readExpr}
 use Rattle.program.specs.declared.answer.Answer.{Answer}
 use Rattle.program.specs.declared.answer.Answer.the-variants.{At, Refused}
@@ -22,6 +22,7 @@ use Rattle.program.specs.declared.codes.ExpressionOf.{ExpressionOf}
 use Rattle.program.specs.declared.codes.ExpressionOf.the-variants.{Is, No}
 use Rattle.program.specs.Answer.{reached, stopped, reachedBy, endOf}
 use Rattle.program.specs.Codes.{expressionOf, modelOperator}
+use Rattle.program.proofs.CodeLaws.{through}
 use Rattle.program.proofs.AnswerLaws.{then-at, then-refused, then-last, byte-there, byte-missing}
 
 constantAt : List ℕ → ℕ → Reading Expr
@@ -36,22 +37,9 @@ module _ (s : List ℕ) (vars : ℕ) (sub : ℕ → Reading Expr) (at next : ℕ
 
   by-code : (x : ℕ) → exprAt s vars sub at x next ≡ coded (expressionOf x)
   unfolding exprAt expressionOf coded constantAt
-  by-code x = go (eqb x 0) (eqb x 1) (eqb x 2) (eqb x 3) (eqb x 4) (eqb x 5) (eqb x 6) (eqb x 7)
-    where
-      go : (a b c d e f g h : Bool) → cond a (constantAt s next) (cond b (andThen (readBelow s vars next) (λ x end. got (variable x) end))
-          (cond c (binaryAt sub sum next) (cond d (binaryAt sub difference next) (cond e (binaryAt sub product next)
-          (cond f (binaryAt sub quotient next) (cond g (binaryAt sub less next) (cond h (binaryAt sub equal next) (bad programCode at))))))))
-          ≡ coded (cond a (Is Constant) (cond b (Is Variable) (cond c (Is (Binary Sum)) (cond d (Is (Binary Difference))
-          (cond e (Is (Binary Product)) (cond f (Is (Binary Quotient)) (cond g (Is (Binary Less)) (cond h (Is (Binary Equal)) No))))))))
-      go true b c d e f g h = refl
-      go false true c d e f g h = refl
-      go false false true d e f g h = refl
-      go false false false true e f g h = refl
-      go false false false false true f g h = refl
-      go false false false false false true g h = refl
-      go false false false false false false true h = refl
-      go false false false false false false false true = refl
-      go false false false false false false false false = refl
+  by-code x =
+      through coded (eqb x 0) (Is Constant) (through coded (eqb x 1) (Is Variable) (through coded (eqb x 2) (Is (Binary Sum)) (through coded (eqb x 3) (Is (Binary Difference))
+      (through coded (eqb x 4) (Is (Binary Product)) (through coded (eqb x 5) (Is (Binary Quotient)) (through coded (eqb x 6) (Is (Binary Less)) (through coded (eqb x 7) (Is (Binary Equal)) refl)))))))
 
 pub expr-deep : (s : List ℕ) (v d at : ℕ) → d ≡ 0 → stopped 14 at ≡ endOf (readExpr s v d at)
 unfolding readExpr endOf

@@ -2,7 +2,6 @@
 use mathlib.Core.Path.{_≡_, refl, _∙_}
 use Prim.Native.Nat.{ℕ, zero, suc, _+_, _-_, _<_, _≤_}
 use mathlib.Core.List.{List}
-use mathlib.Core.Bool.{Bool, true, false, cond}
 use native.Mathlib.Omega.{arith}
 use native.Mathlib.Numerals.{sub-one}
 use lib.Dec.{eqb, ltb, leb}
@@ -20,6 +19,7 @@ use Rattle.program.specs.declared.codes.StatementOf.{StatementOf}
 use Rattle.program.specs.declared.codes.StatementOf.the-variants.{Is, No}
 use Rattle.program.specs.Answer.{reached, stopped, reachedBy, endOf, readAssign, readUpdate}
 use Rattle.program.specs.Codes.{statementOf}
+use Rattle.program.proofs.CodeLaws.{through}
 use Rattle.program.proofs.AnswerLaws.{then-at, then-refused, then-last, then-end, then-same, pick-same, byte-there, byte-missing, many}
 
 -- an assignment
@@ -168,22 +168,9 @@ module _ (s : List ℕ) (P R v : ℕ) (sub : ℕ → Reading Stmt) where
 
     by-code : (x : ℕ) → stmtAt s P R v sub at x next ≡ coded (statementOf x)
     unfolding stmtAt statementOf coded
-    by-code x = go (eqb x 0) (eqb x 1) (eqb x 2) (eqb x 3) (eqb x 4) (eqb x 5) (eqb x 6) (eqb x 7)
-      where
-        go : (a b c d e f g h : Bool) → cond a (got skip next) (cond b (assignAt s P R v sub at next) (cond c (blockAt s P R v sub next)
-            (cond d (ifAt s P R v sub next) (cond e (whileAt s P R v sub next) (cond f (queryAt s P R v sub at next)
-            (cond g (updateAt s P R v sub at next) (cond h (transactionAt s P R v sub at next) (bad programCode at))))))))
-            ≡ coded (cond a (Is Skip) (cond b (Is Assign) (cond c (Is Block) (cond d (Is If)
-            (cond e (Is While) (cond f (Is Query) (cond g (Is Update) (cond h (Is Transaction) No))))))))
-        go true b c d e f g h = refl
-        go false true c d e f g h = refl
-        go false false true d e f g h = refl
-        go false false false true e f g h = refl
-        go false false false false true f g h = refl
-        go false false false false false true g h = refl
-        go false false false false false false true h = refl
-        go false false false false false false false true = refl
-        go false false false false false false false false = refl
+    by-code x =
+        through coded (eqb x 0) (Is Skip) (through coded (eqb x 1) (Is Assign) (through coded (eqb x 2) (Is Block) (through coded (eqb x 3) (Is If)
+        (through coded (eqb x 4) (Is While) (through coded (eqb x 5) (Is Query) (through coded (eqb x 6) (Is Update) (through coded (eqb x 7) (Is Transaction) refl)))))))
 
 pub ruleset blocks = (block-missing, block-begins, many)
 

@@ -1,2 +1,2 @@
 pub mod SetLaws
-mod ByteLaws
+pub mod ByteLaws
