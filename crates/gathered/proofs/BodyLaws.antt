@@ -5,6 +5,7 @@ use mathlib.Core.List.{List, [], _∷_, _++_}
 use mathlib.Core.Bool.{true, false, true≢false}
 use native.Mathlib.Omega.{arith}
 use lib.ListN.{length, getD}
+use Rattle.model.specs.Limits.{expressionDepth}
 use Rattle.model.specs.Bytes.{byte}
 use Rattle.model.specs.Syntax.{Stmt}
 use Rattle.model.specs.Program.{got, readMany, readStmt, blockOf}
@@ -145,7 +146,7 @@ module _ (p : List ℕ) (d at k : ℕ) where
             let n : at + 1 + 1 ≡ at + 2 = omega arith in
             rw (u .is) (f P R vars fit (omega arith) (u .parts) end (rw (m, n) (u .parts-read)))
 
-        pub found-if : (m : ℕ) (r : Found) → c ≡ If → ExprEnds p 16 next m → FoundInPair p (d - 1) m k r → FoundAt p d at k r
+        pub found-if : (m : ℕ) (r : Found) → c ≡ If → ExprEnds p expressionDepth next m → FoundInPair p (d - 1) m k r → FoundAt p d at k r
         unfolding FoundAt ExprEnds FoundInPair bodies
         found-if m r g f s P R vars fit x end h =
             let u = if-parts p P R vars d at h (statement-byte (byte p at) o i c j ∙ ap statementByte g) in
@@ -153,7 +154,7 @@ module _ (p : List ℕ) (d at k : ℕ) where
             let y : m ≡ u .start = f vars (u .test) (u .start) (rw n (u .test-read)) in
             rw (u .is) (s P R vars fit (u .left) (u .right) (u .mid) end (rw y (u .left-read)) (u .right-read))
 
-        pub found-while : (m : ℕ) (r : Found) → c ≡ While → ExprEnds p 16 next m → FoundAt p (d - 1) m k r → FoundAt p d at k r
+        pub found-while : (m : ℕ) (r : Found) → c ≡ While → ExprEnds p expressionDepth next m → FoundAt p (d - 1) m k r → FoundAt p d at k r
         unfolding FoundAt ExprEnds bodies
         found-while m r g f s P R vars fit x end h =
             let u = while-parts p P R vars d at h (statement-byte (byte p at) o i c j ∙ ap statementByte g) in
@@ -161,7 +162,7 @@ module _ (p : List ℕ) (d at k : ℕ) where
             let y : m ≡ u .start = f vars (u .test) (u .start) (rw n (u .test-read)) in
             rw (u .is) (s P R vars fit (u .body) end (rw y (u .body-read)))
 
-      pub found-assign : (m n : ℕ) (r : Found) → c ≡ Assign → m ≡ ahead p at 2 → ExprEnds p 16 m n → r ≡ noneFound n k → FoundAt p d at k r
+      pub found-assign : (m n : ℕ) (r : Found) → c ≡ Assign → m ≡ ahead p at 2 → ExprEnds p expressionDepth m n → r ≡ noneFound n k → FoundAt p d at k r
       unfolding FoundAt ExprEnds bodies foundOf
       found-assign m n r g l f s P R vars fit x end h =
           let u = assign-parts p P R vars d at h (statement-byte (byte p at) o i c j ∙ ap statementByte g) in

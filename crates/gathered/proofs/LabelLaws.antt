@@ -7,6 +7,7 @@ use native.Mathlib.Omega.{arith}
 use lib.Bits.{bitOr}
 use lib.Dec.{eqb}
 use borrow.Author.Tests.{eqb-true, eqb-false}
+use Rattle.model.specs.Limits.{roleLimit}
 use Rattle.model.specs.Bytes.{byte}
 use Rattle.model.specs.Policy.{reading, trust}
 use Rattle.model.specs.Syntax.{atomByte}
@@ -55,8 +56,8 @@ pub ruleset label-roles = (role-unknown, role-alone, role-viewers, role-trusters
 pub variable-words : (p : List ℕ) (x next a b i j : ℕ) → a ≡ labelByte p reading x → b ≡ labelByte p trust x → i ≡ single a → j ≡ single b → _≡_ {A = Labels} (record { next = next; reading = i; trust = j }) (variableLabels p x next)
 variable-words p x next a b i j f g h k = rw (h, k, f, g)
 
--- a label that was read is a role below 64 or everyone, whose word is empty
-right-label : (x : ℕ) → ((x ≡ 0xff → ⊥) → x < 64) → single x ≡ labelRole x
+-- a label that was read is a role or everyone, whose word is empty
+right-label : (x : ℕ) → ((x ≡ 0xff → ⊥) → x < roleLimit) → single x ≡ labelRole x
 right-label x f = go (eqb x 0xff) refl
   where
     go : (b : Bool) → eqb x 0xff ≡ b → single x ≡ labelRole x

@@ -4,6 +4,7 @@ use Prim.Native.Nat.{ℕ, _+_, _-_, _≤_}
 use mathlib.Core.List.{List}
 use native.Mathlib.Omega.{arith}
 use lib.ListN.{length, take, drop}
+use Rattle.model.specs.Limits.{statementDepth}
 use Rattle.model.specs.Number.{fine}
 use Rattle.model.specs.Policy.{principals, roles}
 use Rattle.model.specs.Program.{variables, bodyAt}
@@ -25,7 +26,7 @@ module _ (s p : List ℕ) (k : ℕ) (h : programVerdict s p ≡ fine) where
       let u = program-parts p (principals s) (roles s) (a .is-read) in
       rw (transaction-is s p k h (a .is-read), ← (u .ends)) (each-at {Q = PartWithin (a .end)} (bodies (a .body)) k (part 0 0) (u .bodies-within) (omega arith))
 
-  module _ (vars start : ℕ) (f : Found) (e : vars ≡ variables p) (w : start ≡ bodyAt vars) (g : FoundAt p 32 start k f) where
+  module _ (vars start : ℕ) (f : Found) (e : vars ≡ variables p) (w : start ≡ bodyAt vars) (g : FoundAt p statementDepth start k f) where
     pub span-is : part (f .start) (f .size) ≡ transactionPart s p k
     unfolding FoundAt
     span-is =

@@ -5,6 +5,7 @@ use mathlib.Core.List.{List}
 use native.Mathlib.Omega.{arith}
 use lib.ListN.{length}
 use lib.Bits.{bitOr, or-zero-l, or-zero-r, or-comm}
+use Rattle.model.specs.Limits.{roleLimit, expressionDepth}
 use Rattle.model.specs.Bytes.{byte}
 use Rattle.model.specs.Sets.{with}
 use Rattle.model.specs.Mutation.{Mutation}
@@ -34,7 +35,7 @@ pub record Mutated (p : List ℕ) (P R left next roles : ℕ) (ms : List Mutatio
 
 unfoldable pub Mutating : List ℕ → ℕ → ℕ → ℕ → ℕ → Type 0
 Mutating p at left next roles =
-    (P R : ℕ) → R ≤ 64 → at < length p → (ms : List Mutation) (end : ℕ) → readMany (readMutation p P R) (byte p at) (at + 1) ≡ got ms end → Mutated p P R left next roles ms end
+    (P R : ℕ) → R ≤ roleLimit → at < length p → (ms : List Mutation) (end : ℕ) → readMany (readMutation p P R) (byte p at) (at + 1) ≡ got ms end → Mutated p P R left next roles ms end
 
 module _ (p : List ℕ) (at left next : ℕ) where
   pub mutating-start : left ≡ byte p at → next ≡ ahead p at 1 → Mutating p at left next 0
@@ -150,7 +151,7 @@ module _ (p : List ℕ) (d at : ℕ) where
             let n : at + 1 + 1 ≡ at + 2 = omega arith in
             rw (u .is) (f P R vars fit (omega arith) (u .parts) end (rw (m, n) (u .parts-read)))
 
-        pub writes-if : (m : ℕ) (r : Writes) → c ≡ If → ExprEnds p 16 next m → PairWrites p (d - 1) m r → WritesAt p d at r
+        pub writes-if : (m : ℕ) (r : Writes) → c ≡ If → ExprEnds p expressionDepth next m → PairWrites p (d - 1) m r → WritesAt p d at r
         unfolding WritesAt ExprEnds PairWrites assigned mutated
         writes-if m r k f g P R vars fit x end h =
             let u = if-parts p P R vars d at h (statement-byte (byte p at) o i c j ∙ ap statementByte k) in
@@ -158,7 +159,7 @@ module _ (p : List ℕ) (d at : ℕ) where
             let y : m ≡ u .start = f vars (u .test) (u .start) (rw n (u .test-read)) in
             rw (u .is) (g P R vars fit (u .left) (u .right) (u .mid) end (rw y (u .left-read)) (u .right-read))
 
-        pub writes-while : (m : ℕ) (r : Writes) → c ≡ While → ExprEnds p 16 next m → WritesAt p (d - 1) m r → WritesAt p d at r
+        pub writes-while : (m : ℕ) (r : Writes) → c ≡ While → ExprEnds p expressionDepth next m → WritesAt p (d - 1) m r → WritesAt p d at r
         unfolding WritesAt ExprEnds assigned mutated
         writes-while m r k f g P R vars fit x end h =
             let u = while-parts p P R vars d at h (statement-byte (byte p at) o i c j ∙ ap statementByte k) in
@@ -188,7 +189,7 @@ module _ (p : List ℕ) (d at : ℕ) where
           rw (u .is) (f P R vars fit (u .body) end (rw (l, list-is p at 2 (u .inside)) (u .body-read)))
 
 -- an assignment
-pub assign-writes : (p : List ℕ) (at q b v m n w : ℕ) → q ≡ ahead p at 1 → b ≡ byte p q → v ≡ b → w ≡ single v → m ≡ ahead p at 2 → ExprEnds p 16 m n → AssignWrites p at (record { next = n; variables = w; roles = 0 })
+pub assign-writes : (p : List ℕ) (at q b v m n w : ℕ) → q ≡ ahead p at 1 → b ≡ byte p q → v ≡ b → w ≡ single v → m ≡ ahead p at 2 → ExprEnds p expressionDepth m n → AssignWrites p at (record { next = n; variables = w; roles = 0 })
 unfolding AssignWrites WritesAt ExprEnds assigned mutated
 assign-writes p at q b v m n w e₁ e₂ e₃ e₄ e₅ f d code P R vars fit x end h =
     let u = assign-parts p P R vars d at h code in

@@ -2,6 +2,7 @@
 use mathlib.Core.Path.{_≡_}
 use Prim.Native.Nat.{ℕ, _<_}
 use mathlib.Core.List.{List}
+use Rattle.model.specs.Limits.{roleLimit}
 use Rattle.model.specs.Policy.{Side, reading, trust}
 use Rattle.model.specs.Syntax.{Expr}
 use Rattle.model.specs.Program.{got, readExpr}
@@ -25,4 +26,4 @@ exprLabels p e end = record { next = end; reading = exprRoles p reading e; trust
 -- r is the labels of the expression that stands at a position, of any program whose labels are roles or everyone
 unfoldable pub LabelsAt : List ℕ → ℕ → ℕ → Labels → Type 0
 LabelsAt p depth at r =
-    (vars : ℕ) → LabelsBelow 64 p vars → (e : Expr) (end : ℕ) → readExpr p vars depth at ≡ got e end → r ≡ exprLabels p e end
+    (vars : ℕ) → LabelsBelow roleLimit p vars → (e : Expr) (end : ℕ) → readExpr p vars depth at ≡ got e end → r ≡ exprLabels p e end

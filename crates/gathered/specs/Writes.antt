@@ -4,6 +4,7 @@ use Prim.Native.Nat.{ℕ, _+_, _<_, _≤_}
 use mathlib.Core.List.{List}
 use lib.ListN.{length}
 use lib.Bits.{bitOr}
+use Rattle.model.specs.Limits.{roleLimit, variableLimit}
 use Rattle.model.specs.Bytes.{byte}
 use Rattle.model.specs.Mutation.{Mutation}
 use Rattle.model.specs.Syntax.{Stmt}
@@ -13,7 +14,7 @@ use Rattle.gathered.specs.declared.writes.Writes.{Writes}
 
 -- as many roles and variables as a program and its policy may have, so that a set of them is a word
 abbrev pub Fit : ℕ → ℕ → Type 0
-Fit R vars = (R ≤ 64) × (vars ≤ 64)
+Fit R vars = (R ≤ roleLimit) × (vars ≤ variableLimit)
 
 -- a statement that ends at a position and writes nothing
 abbrev pub noWrites : ℕ → Writes
@@ -53,5 +54,5 @@ BlockWrites p depth at r =
 -- the same of n mutations whose count stands at a position
 unfoldable pub UpdateWrites : List ℕ → ℕ → Writes → Type 0
 UpdateWrites p at r =
-    (P R : ℕ) → R ≤ 64 → at < length p → (ms : List Mutation) (end : ℕ) → readMany (readMutation p P R) (byte p at) (at + 1) ≡ got ms end
+    (P R : ℕ) → R ≤ roleLimit → at < length p → (ms : List Mutation) (end : ℕ) → readMany (readMutation p P R) (byte p at) (at + 1) ≡ got ms end
     → r ≡ record { next = end; variables = 0; roles = rolesOf ms }

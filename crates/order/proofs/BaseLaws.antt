@@ -65,7 +65,7 @@ pub ruleset loads = (loaded-none, loaded-more, loaded-done)
 -- the holders of a set, role by role
 module _ (w : List ℕ) (low : ℕ) where
   module _ (j found : ℕ) (b : Bool) (e : found ≡ holders w low j) (d : b ≡ within low (getD w j 0)) where
-    pub holder-in : b ≡ true → (x : ℕ) → j < 64 → x ≡ single j → bitOr found x ≡ holders w low (j + 1)
+    pub holder-in : b ≡ true → (x : ℕ) → j < roleLimit → x ≡ single j → bitOr found x ≡ holders w low (j + 1)
     unfolding holders
     holder-in h x l g = rw (add-one j, ← d, h, g, e, single-is j l)
 

@@ -131,5 +131,5 @@ module _ (t u : List ℕ) (y : ℕ) (r : Row) (long : length t ≡ tableWords) (
       (set-other t (3 * y) _ _ _ (3 * z + 1) (λ f. omega arith) (λ f. n (omega arith)) (λ f. omega arith))
       (set-other t (3 * y) _ _ _ (3 * z + 2) (λ f. omega arith) (λ f. omega arith) (λ f. n (omega arith)))
 
-pub with-role : (r : Row) (j x : ℕ) → j < 64 → x ≡ single j → record { roles = bitOr (r .roles) x; viewers = r .viewers; trusters = r .trusters } ≡ withRole r j
+pub with-role : (r : Row) (j x : ℕ) → j < roleLimit → x ≡ single j → record { roles = bitOr (r .roles) x; viewers = r .viewers; trusters = r .trusters } ≡ withRole r j
 with-role r j x l e = rw (e, single-is j l)

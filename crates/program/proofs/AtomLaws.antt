@@ -7,6 +7,7 @@ use native.Mathlib.Omega.{arith}
 use lib.Dec.{eqb, ltb}
 use lib.ListN.{length}
 use borrow.Author.Tests.{lt-ltb, le-ltb, eq-eqb, ne-eqb}
+use Rattle.model.specs.Limits.{roleLimit}
 use Rattle.model.specs.Number.{programCode, programRange}
 use Rattle.model.specs.Bytes.{byte}
 use Rattle.model.specs.Mutation.{Mutation, addMember, deleteMember, addTaken, deleteTaken}
@@ -59,7 +60,7 @@ module _ (s : List ℕ) (R at : ℕ) where
     unfolding readLabel endOf
     other-label h n = rw (byte-there s at _ l) (simp (le-ltb _ _ h, ne-eqb _ _ n))
 
-    module _ (few : R ≤ 64) (k : AtomOf) (e : k ≡ atomOf (byte s at)) where
+    module _ (few : R ≤ roleLimit) (k : AtomOf) (e : k ≡ atomOf (byte s at)) where
       pub label-none : k ≡ atom.No → stopped 13 at ≡ endOf (readLabel s R at)
       label-none h = other-label (omega (arith, none-high (byte s at) k e h)) (none-everyone (byte s at) k e h)
 
@@ -67,7 +68,7 @@ module _ (s : List ℕ) (R at : ℕ) where
         here-byte : atomByte (modelAtom a) ≡ byte s at
         here-byte = atom-byte (byte s at) k e a h
 
-        here-fits : AtomFits 64 (modelAtom a)
+        here-fits : AtomFits roleLimit (modelAtom a)
         here-fits = atom-fits (byte s at) k e a h
 
         pub label-role : (j : ℕ) → a ≡ Role j → j < R → reached (at + 1) ≡ endOf (readLabel s R at)
@@ -79,17 +80,17 @@ module _ (s : List ℕ) (R at : ℕ) where
         pub label-large : (j : ℕ) → a ≡ Role j → R ≤ j → stopped 13 at ≡ endOf (readLabel s R at)
         label-large j g i =
             let x : j ≡ byte s at = rw g at here-byte in
-            let y : j < 64 = rw g at here-fits in other-label (omega arith) (λ z. omega arith)
+            let y : j < roleLimit = rw g at here-fits in other-label (omega arith) (λ z. omega arith)
 
         pub label-viewers : (j : ℕ) → a ≡ Viewers j → stopped 13 at ≡ endOf (readLabel s R at)
         label-viewers j g =
             let x : 0x40 + j ≡ byte s at = rw g at here-byte in
-            let y : j < 64 = rw g at here-fits in other-label (omega arith) (λ z. omega arith)
+            let y : j < roleLimit = rw g at here-fits in other-label (omega arith) (λ z. omega arith)
 
         pub label-trusters : (j : ℕ) → a ≡ Trusters j → stopped 13 at ≡ endOf (readLabel s R at)
         label-trusters j g =
             let x : 0x80 + j ≡ byte s at = rw g at here-byte in
-            let y : j < 64 = rw g at here-fits in other-label (omega arith) (λ z. omega arith)
+            let y : j < roleLimit = rw g at here-fits in other-label (omega arith) (λ z. omega arith)
 
         pub label-everyone : a ≡ Everyone → reached (at + 1) ≡ endOf (readLabel s R at)
         unfolding readLabel endOf

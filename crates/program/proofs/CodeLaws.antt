@@ -6,6 +6,7 @@ use mathlib.Core.Bool.{Bool, true, false, cond}
 use native.Mathlib.Omega.{arith}
 use lib.Dec.{eqb, ltb}
 use borrow.Author.Tests.{lt-ltb, le-ltb, ne-eqb, eqb-true, eqb-false, ltb-true, ltb-false}
+use Rattle.model.specs.Limits.{roleLimit}
 use Rattle.model.specs.Policy.{reading, trust}
 use Rattle.model.specs.Syntax.{Atom as ModelAtom, role, fixed, of, everyone, atomByte}
 use Rattle.model.specs.Fits.{AtomFits}
@@ -79,9 +80,9 @@ module _ (b : ℕ) where
 
 pub ruleset atoms = (is-role, is-viewers, is-trusters, is-everyone, no-atom)
 
--- an atom's byte is the model's, and its role is below 64; a byte that is none is C0–FE
+-- an atom's byte is the model's, and its role is one of those that there may be; a byte that is none is C0–FE
 AtomCode : ℕ → AtomOf → Type 0
-AtomCode b (atom.Is a) = (atomByte (modelAtom a) ≡ b) × AtomFits 64 (modelAtom a)
+AtomCode b (atom.Is a) = (atomByte (modelAtom a) ≡ b) × AtomFits roleLimit (modelAtom a)
 AtomCode b atom.No = (0xc0 ≤ b) × (b ≡ 0xff → ⊥)
 
 atom-code : (b : ℕ) → AtomCode b (atomOf b)
@@ -102,7 +103,7 @@ module _ (b : ℕ) (o : AtomOf) (e : o ≡ atomOf b) where
     unfolding AtomCode
     atom-byte = (rw h at here-atom) .0
 
-    pub atom-fits : AtomFits 64 (modelAtom a)
+    pub atom-fits : AtomFits roleLimit (modelAtom a)
     unfolding AtomCode
     atom-fits = (rw h at here-atom) .1
 
@@ -122,7 +123,7 @@ model-code (fixed (of reading j)) = refl
 model-code (fixed (of trust j)) = refl
 model-code (fixed everyone) = refl
 
-pub byte-atom : (m : ModelAtom) → AtomFits 64 m → atomOf (atomByte m) ≡ atom.Is (codeAtom m)
+pub byte-atom : (m : ModelAtom) → AtomFits roleLimit m → atomOf (atomByte m) ≡ atom.Is (codeAtom m)
 byte-atom (role j) f = sym (is-role j f)
 byte-atom (fixed (of reading j)) f =
     let k : 0x40 + j - 0x40 ≡ j = omega arith in sym (is-viewers (0x40 + j) (omega arith) (omega arith)) ∙ rw k
@@ -130,7 +131,7 @@ byte-atom (fixed (of trust j)) f =
     let k : 0x80 + j - 0x80 ≡ j = omega arith in sym (is-trusters (0x80 + j) (omega arith) (omega arith)) ∙ rw k
 byte-atom (fixed everyone) f = sym (is-everyone 0xff refl)
 
-module _ (m : ModelAtom) (f : AtomFits 64 m) (b : ℕ) (y : atomByte m ≡ b) (o : AtomOf) (e : o ≡ atomOf b) where
+module _ (m : ModelAtom) (f : AtomFits roleLimit m) (b : ℕ) (y : atomByte m ≡ b) (o : AtomOf) (e : o ≡ atomOf b) where
   coded-atom : o ≡ atom.Is (codeAtom m)
   coded-atom = e ∙ rw (← y) (byte-atom m f)
 

@@ -2,6 +2,7 @@
 use mathlib.Core.Path.{_≡_}
 use Prim.Native.Nat.{ℕ, _≤_}
 use mathlib.Core.List.{List}
+use Rattle.model.specs.Limits.{roleLimit}
 use Rattle.model.specs.Program.{readLabel, readQuery, readMutation}
 use Rattle.program.specs.declared.answer.Answer.{Answer}
 use Rattle.program.specs.declared.entries.Entry.{Entry}
@@ -9,7 +10,7 @@ use Rattle.program.specs.declared.entries.Entry.the-variants.{Label, Que
 use Rattle.program.specs.Answer.{reachedBy, endOf}
 use Rattle.program.specs.Entries.{Room, readEntry}
 
-pub label-room : (entry : Entry) (R : ℕ) → Room entry R → entry ≡ Label → R ≤ 64
+pub label-room : (entry : Entry) (R : ℕ) → Room entry R → entry ≡ Label → R ≤ roleLimit
 label-room entry R h e = rw e at h
 
 module _ (s : List ℕ) (P R at : ℕ) (entry : Entry) (r : Answer) where

@@ -11,6 +11,7 @@ use lib.Dec.{eqb, leb, eqb·zero-suc, eqb·suc-suc}
 use lib.ListN.{length, drop, drop-of-length-le}
 use lib.Seq.{drop-cons}
 use borrow.Author.Tests.{le-leb, lt-leb, eq-eqb, ne-eqb}
+use Rattle.model.specs.Limits.{programBytes, variableLimit, statementDepth}
 use Rattle.model.specs.Number.{programMark}
 use Rattle.model.specs.Bytes.{byte}
 use Rattle.model.specs.Program.{bad, andThen, readBelow, readMark, readMany, readLabel, readStmt, readBody, readProgram, programHead}
@@ -72,19 +73,19 @@ module _ (s m : List ℕ) (k : ℕ) (e : k ≡ matching s m) where
 pub ruleset marks = (mark-read, mark-missing, mark-differs)
 
 -- the body
-module _ (s : List ℕ) (P R v at : ℕ) (a : Answer) (e : reachedBy a ≡ endOf (readStmt s P R v 32 at)) where
+module _ (s : List ℕ) (P R v at : ℕ) (a : Answer) (e : reachedBy a ≡ endOf (readStmt s P R v statementDepth at)) where
   pub body-refused : (b c : ℕ) → a ≡ Refused b c → reachedBy a ≡ endOf (readBody s P R v at)
   unfolding readBody
-  body-refused b c h = then-refused (readStmt s P R v 32 at) _ e h
+  body-refused b c h = then-refused (readStmt s P R v statementDepth at) _ e h
 
   module _ (end : ℕ) (h : a ≡ At end) where
     pub body-more : (end ≡ length s → ⊥) → stopped 10 end ≡ endOf (readBody s P R v at)
     unfolding readBody endOf
-    body-more n = then-at (readStmt s P R v 32 at) _ e h (λ x. simp (ne-eqb _ _ n))
+    body-more n = then-at (readStmt s P R v statementDepth at) _ e h (λ x. simp (ne-eqb _ _ n))
 
     pub body-read : end ≡ length s → reached end ≡ endOf (readBody s P R v at)
     unfolding readBody endOf
-    body-read n = then-at (readStmt s P R v 32 at) _ e h (λ x. simp (eq-eqb _ _ n))
+    body-read n = then-at (readStmt s P R v statementDepth at) _ e h (λ x. simp (eq-eqb _ _ n))
 
 pub ruleset bodies = (body-refused, body-more, body-read)
 
@@ -95,11 +96,11 @@ module _ (s : List ℕ) (P R at : ℕ) where
   variables-missing h = then-refused (readBelow s 65 at) _ {a = Refused 10 (length s)} (below-missing s 65 at h) refl
 
   module _ (l : at < length s) where
-    pub variables-many : 64 < byte s at → stopped 13 at ≡ endOf (readVariables s P R at)
+    pub variables-many : variableLimit < byte s at → stopped 13 at ≡ endOf (readVariables s P R at)
     unfolding readVariables
     variables-many h = then-refused (readBelow s 65 at) _ {a = Refused 13 at} (below-large s 65 at l (omega arith)) refl
 
-    module _ (n : byte s at ≤ 64) (a : Answer) (e : reachedBy a ≡ endOf (readMany (readLabel s R) (2 * byte s at) (at + 1))) where
+    module _ (n : byte s at ≤ variableLimit) (a : Answer) (e : reachedBy a ≡ endOf (readMany (readLabel s R) (2 * byte s at) (at + 1))) where
       pub variables-labels : (b c : ℕ) → a ≡ Refused b c → reachedBy a ≡ endOf (readVariables s P R at)
       unfolding readVariables andThen
       variables-labels b c h = rw (below-read s 65 at l (omega arith)) (then-refused (readMany (readLabel s R) (2 * byte s at) (at + 1)) _ e h)
@@ -112,11 +113,11 @@ pub ruleset variables = (variables-missing, variables-many, variables-labels, va
 
 -- the whole program
 module _ (s : List ℕ) (P R : ℕ) where
-  pub program-long : 4096 < length s → stopped 10 4096 ≡ endOf (readProgram s P R)
+  pub program-long : programBytes < length s → stopped 10 programBytes ≡ endOf (readProgram s P R)
   unfolding readProgram endOf
   program-long h = simp (lt-leb _ _ h)
 
-  module _ (l : length s ≤ 4096) (a : Answer) (e : reachedBy a ≡ endOf (readMark s programHead 0)) where
+  module _ (l : length s ≤ programBytes) (a : Answer) (e : reachedBy a ≡ endOf (readMark s programHead 0)) where
     pub program-mark : (b c : ℕ) → a ≡ Refused b c → reachedBy a ≡ endOf (readProgram s P R)
     unfolding readProgram
     program-mark b c h = simp (le-leb _ _ l) (then-refused (readMark s programHead 0) _ e h)

@@ -7,6 +7,7 @@ use native.Mathlib.Numerals.{sub-one}
 use lib.Dec.{eqb, ltb, leb}
 use lib.ListN.{length}
 use borrow.Author.Tests.{lt-ltb, le-leb, lt-leb}
+use Rattle.model.specs.Limits.{expressionDepth, listLimit}
 use Rattle.model.specs.Number.{programCode}
 use Rattle.model.specs.Bytes.{byte}
 use Rattle.model.specs.Syntax.{Stmt, skip, if, while, query, transaction}
@@ -28,7 +29,7 @@ module _ (s : List ℕ) (v at : ℕ) (a : Answer) (e : reachedBy a ≡ endOf (re
   unfolding readAssign
   assign-target b c h = then-refused (readBelow s v at) _ e h
 
-  pub assign-value : (mid : ℕ) (r : Answer) → a ≡ At mid → reachedBy r ≡ endOf (readExpr s v 16 mid) → reachedBy r ≡ endOf (readAssign s v at)
+  pub assign-value : (mid : ℕ) (r : Answer) → a ≡ At mid → reachedBy r ≡ endOf (readExpr s v expressionDepth mid) → reachedBy r ≡ endOf (readAssign s v at)
   unfolding readAssign
   assign-value mid r h g = then-at (readBelow s v at) _ e h (λ x. g)
 
@@ -46,11 +47,11 @@ module _ (s : List ℕ) (P R at : ℕ) where
     update-none e = rw (byte-there s at _ l, e)
 
     module _ (n : byte s at ≡ 0 → ⊥) where
-      pub update-many : 16 < byte s at → stopped 13 at ≡ endOf (readUpdate s P R at)
+      pub update-many : listLimit < byte s at → stopped 13 at ≡ endOf (readUpdate s P R at)
       unfolding readUpdate endOf
       update-many h = let g : 0 < byte s at = omega arith in rw (byte-there s at _ l) (simp (lt-ltb _ _ g, lt-leb _ _ h))
 
-      pub update-read : (r : Answer) → byte s at ≤ 16 → reachedBy r ≡ endOf (readMany (readMutation s P R) (byte s at) (at + 1)) → reachedBy r ≡ endOf (readUpdate s P R at)
+      pub update-read : (r : Answer) → byte s at ≤ listLimit → reachedBy r ≡ endOf (readMany (readMutation s P R) (byte s at) (at + 1)) → reachedBy r ≡ endOf (readUpdate s P R at)
       unfolding readUpdate
       update-read r h e =
           let g : (byte s at ≡ 0 → ⊥) → 0 < byte s at = λ m. omega arith in
@@ -69,28 +70,28 @@ module _ (s : List ℕ) (P R v : ℕ) (sub : ℕ → Reading Stmt) where
   block-begins at l = rw (byte-there s at _ l) (then-last (readMany sub (byte s at) (at + 1)) blockOf)
 
   -- an if and a while: the test, then what they hold
-  module _ (at : ℕ) (t : Answer) (e : reachedBy t ≡ endOf (readExpr s v 16 at)) where
+  module _ (at : ℕ) (t : Answer) (e : reachedBy t ≡ endOf (readExpr s v expressionDepth at)) where
     pub if-test : (b c : ℕ) → t ≡ Refused b c → reachedBy t ≡ endOf (ifAt s P R v sub at)
     unfolding ifAt
-    if-test b c h = then-refused (readExpr s v 16 at) _ e h
+    if-test b c h = then-refused (readExpr s v expressionDepth at) _ e h
 
     pub while-test : (b c : ℕ) → t ≡ Refused b c → reachedBy t ≡ endOf (whileAt s P R v sub at)
     unfolding whileAt
-    while-test b c h = then-refused (readExpr s v 16 at) _ e h
+    while-test b c h = then-refused (readExpr s v expressionDepth at) _ e h
 
     module _ (p : ℕ) (h : t ≡ At p) (a : Answer) (g : reachedBy a ≡ endOf (sub p)) where
       pub while-body : reachedBy a ≡ endOf (whileAt s P R v sub at)
       unfolding whileAt
-      while-body = then-at (readExpr s v 16 at) _ e h (λ x. g ∙ then-last (sub p) (while x))
+      while-body = then-at (readExpr s v expressionDepth at) _ e h (λ x. g ∙ then-last (sub p) (while x))
 
       pub if-first : (b c : ℕ) → a ≡ Refused b c → reachedBy a ≡ endOf (ifAt s P R v sub at)
       unfolding ifAt
-      if-first b c i = then-at (readExpr s v 16 at) _ e h (λ x. then-refused (sub p) _ g i)
+      if-first b c i = then-at (readExpr s v expressionDepth at) _ e h (λ x. then-refused (sub p) _ g i)
 
       pub if-second : (q : ℕ) (r : Answer) → a ≡ At q → reachedBy r ≡ endOf (sub q) → reachedBy r ≡ endOf (ifAt s P R v sub at)
       unfolding ifAt
       if-second q r i j =
-          then-at (readExpr s v 16 at) _ e h (λ x. then-at (sub p) _ g i (λ y. j ∙ then-last (sub q) (if x y)))
+          then-at (readExpr s v expressionDepth at) _ e h (λ x. then-at (sub p) _ g i (λ y. j ∙ then-last (sub q) (if x y)))
 
   -- a query: its atoms, then what it holds
   module _ (place at : ℕ) (t : Answer) (e : reachedBy t ≡ endOf (readQuery s R at)) where
@@ -115,11 +116,11 @@ module _ (s : List ℕ) (P R v : ℕ) (sub : ℕ → Reading Stmt) where
     transaction-missing h = byte-missing s at _ h
 
     module _ (l : at < length s) where
-      pub transaction-many : 16 < byte s at → stopped 13 at ≡ endOf (transactionAt s P R v sub place at)
+      pub transaction-many : listLimit < byte s at → stopped 13 at ≡ endOf (transactionAt s P R v sub place at)
       unfolding transactionAt endOf
       transaction-many h = rw (byte-there s at _ l) (simp (lt-leb _ _ h))
 
-      module _ (n : byte s at ≤ 16) (t : Answer) (e : reachedBy t ≡ endOf (readMany (readQuery s R) (byte s at) (at + 1))) where
+      module _ (n : byte s at ≤ listLimit) (t : Answer) (e : reachedBy t ≡ endOf (readMany (readQuery s R) (byte s at) (at + 1))) where
         pub transaction-list : (b c : ℕ) → t ≡ Refused b c → reachedBy t ≡ endOf (transactionAt s P R v sub place at)
         unfolding transactionAt
         transaction-list b c h =
@@ -134,13 +135,13 @@ module _ (s : List ℕ) (P R v : ℕ) (sub : ℕ → Reading Stmt) where
   -- an answer does not keep the place
   assign-same : (at next : ℕ) → endOf (readAssign s v next) ≡ endOf (assignAt s P R v sub at next)
   unfolding readAssign assignAt
-  assign-same at next = then-same (readBelow s v next) _ _ (λ x mid. then-last (readExpr s v 16 mid) _)
+  assign-same at next = then-same (readBelow s v next) _ _ (λ x mid. then-last (readExpr s v expressionDepth mid) _)
 
   update-same : (at next : ℕ) → endOf (readUpdate s P R next) ≡ endOf (updateAt s P R v sub at next)
   unfolding readUpdate updateAt
   update-same at next =
       then-same (readByte s next) _ _
-      (λ n mid. pick-same (ltb 0 n) _ _ _ _ (pick-same (leb n 16) _ _ _ _ (then-last (readMany (readMutation s P R) n mid) _)))
+      (λ n mid. pick-same (ltb 0 n) _ _ _ _ (pick-same (leb n listLimit) _ _ _ _ (then-last (readMany (readMutation s P R) n mid) _)))
 
   query-same : (at place next : ℕ) → endOf (queryAt s P R v sub place next) ≡ endOf (queryAt s P R v sub at next)
   unfolding queryAt endOf
@@ -151,7 +152,7 @@ module _ (s : List ℕ) (P R v : ℕ) (sub : ℕ → Reading Stmt) where
   unfolding transactionAt endOf
   transaction-same at place next =
       then-same (readByte s next) _ _
-      (λ n mid. pick-same (leb n 16) _ _ _ _ (then-same (readMany (readQuery s R) n mid) _ _ (λ x p. then-same (sub p) _ _ (λ y end. refl))))
+      (λ n mid. pick-same (leb n listLimit) _ _ _ _ (then-same (readMany (readQuery s R) n mid) _ _ (λ x p. then-same (sub p) _ _ (λ y end. refl))))
 
   -- a statement, by its code
   module _ (at next : ℕ) where

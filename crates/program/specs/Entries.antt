@@ -1,15 +1,16 @@
 -- What the lists of a program hold, as the model reads it.
 use Prim.Native.Nat.{ℕ, _≤_}
 use mathlib.Core.List.{List}
+use Rattle.model.specs.Limits.{roleLimit}
 use Rattle.model.specs.Mutation.{Mutation as ModelMutation}
 use Rattle.model.specs.Syntax.{Query as ModelQuery}
 use Rattle.model.specs.Program.{Read as Reading, readLabel, readQuery, readMutation}
 use Rattle.program.specs.declared.entries.Entry.{Entry}
 use Rattle.program.specs.declared.entries.Entry.the-variants.{Label, Query, Mutation}
 
--- a label's byte has room for 64 roles; how many there are matters to no other entry
+-- a label's byte has room for as many roles as there may be; how many there are matters to no other entry
 abbrev pub Room : Entry → ℕ → Type 0
-Room Label R = R ≤ 64
+Room Label R = R ≤ roleLimit
 Room Query R = Unit {0}
 Room Mutation R = Unit {0}
 

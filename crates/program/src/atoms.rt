@@ -1,6 +1,7 @@
 // Reading what statements and expressions are made of: a byte below a bound, an atom, a label, a query, a mutation.
 ghost use mathlib.Core.Path.{_≡_};
 ghost use Prim.Native.Nat.{_≤_};
+ghost use Rattle.model.specs.Limits.{roleLimit};
 ghost use Rattle.model.specs.Program.{readBelow, readAtom, readLabel, readQuery, readMutation};
 ghost use Rattle.program.specs.Answer.{reachedBy, endOf};
 use super::answer::Answer;
@@ -41,7 +42,7 @@ pub fn read_atom(program: &[u8], roles: u8, at: usize) -> Answer
 
 // A variable's label is a role below R or everyone; all else is 13, a byte that is no atom too.
 pub fn read_label(program: &[u8], roles: u8, at: usize) -> Answer
-    requires { ⌜ roles ≤ 64 ⌝ }
+    requires { ⌜ roles ≤ roleLimit ⌝ }
     ensures { λ r. ⌜ reachedBy r ≡ endOf (readLabel (now (program .entry)) roles at) ⌝ }
 {
     if program.len() <= at {

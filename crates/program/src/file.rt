@@ -1,6 +1,7 @@
 // Reading a whole program: its mark and version, V, the labels of the variables, one statement, nothing more.
 ghost use mathlib.Core.Path.{_≡_};
 ghost use Prim.Native.Nat.{_≤_};
+ghost use Rattle.model.specs.Limits.{roleLimit};
 ghost use Rattle.model.specs.Program.{programHead, readMark, readBody, readProgram};
 ghost use Rattle.program.specs.Answer.{reachedBy, endOf, readVariables};
 use super::answer::Answer;
@@ -42,7 +43,7 @@ fn read_body(program: &[u8], principals: u8, roles: u8, vars: u8, at: usize) -> 
 
 // V, V pairs of labels, the body.
 fn read_variables(program: &[u8], principals: u8, roles: u8, at: usize) -> Answer
-    requires { ⌜ roles ≤ 64 ⌝ }
+    requires { ⌜ roles ≤ roleLimit ⌝ }
     ensures { λ r. ⌜ reachedBy r ≡ endOf (readVariables (now (program .entry)) principals roles at) ⌝ }
 {
     if program.len() <= at {
@@ -59,10 +60,10 @@ fn read_variables(program: &[u8], principals: u8, roles: u8, at: usize) -> Answe
     read_body(program, principals, roles, vars, body)
 }
 
-// Any bytes as a program under a policy of P principals and R roles; an accepted one has at most 64. Over-length comes before
-// the mark.
+// Any bytes as a program under a policy of P principals and R roles, as many as there may be. Over-length comes before the
+// mark.
 pub fn read_program(program: &[u8], principals: u8, roles: u8) -> Answer
-    requires { ⌜ roles ≤ 64 ⌝ }
+    requires { ⌜ roles ≤ roleLimit ⌝ }
     ensures { λ r. ⌜ reachedBy r ≡ endOf (readProgram (now (program .entry)) principals roles) ⌝ }
 {
     if limit::PROGRAM_BYTES < program.len() {
