@@ -10,9 +10,9 @@ row-number-spec =
     tie.close
     (tie.spec
     (λ c κs. search (needs, row-laws, seen-laws, row-inside))
-    (λ c. search (needs, row-laws, seen-laws, row-inside))
+    (λ c. search (needs, row-laws, seen-laws))
+    (λ c κs. search (needs, row-laws, seen-laws, row-inside))
+    (λ c. search (needs, row-laws, seen-laws))
     (λ c κs. search (needs, row-laws, seen-laws, row-inside))
     (λ c. search (needs, row-laws, seen-laws, row-inside))
-    (λ c κs. search (needs, row-laws, seen-laws, row-inside))
-    (λ c. search (needs, row-laws, seen-laws, row-inside))
-    (λ c. search (needs, row-laws, seen-laws, row-inside)))
+    (λ c. search (needs, row-laws, seen-laws)))

@@ -5,4 +5,4 @@ use Rattle.policy.proofs.pairs.is_marked.Tie as tie
 
 pub is-marked-spec : {M : Type 1} → statement M
 is-marked-spec =
-    tie.close (tie.spec (λ c. search (needs, marked-is)) (λ c. search (needs, marked-is)) (λ c κs. search (needs, marked-is)) (λ c. search (needs, marked-is)))
+    tie.close (tie.spec (λ c. search (needs, marked-is)) (λ c. search (needs, marked-is)) (λ c κs. search needs) (λ c. search (needs, marked-is)))

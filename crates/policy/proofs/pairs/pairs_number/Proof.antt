@@ -7,10 +7,10 @@ pub pairs-number-spec : {M : Type 1} → statement M
 pairs-number-spec =
     tie.close
     (tie.spec
-    (λ c κs. search (needs, pair-laws, length-mark))
+    (λ c κs. search (needs, pair-laws))
     (λ c κs. search (needs, pair-laws, length-mark))
     (λ c κs. search (needs, pair-laws, length-mark))
     (λ c. search (needs, pair-laws, length-mark))
+    (λ c. search (needs, pair-laws))
     (λ c. search (needs, pair-laws, length-mark))
-    (λ c. search (needs, pair-laws, length-mark))
-    (λ c. search (needs, pair-laws, length-mark)))
+    (λ c. search (needs, pair-laws)))

@@ -9,8 +9,8 @@ set-mark-spec =
     (tie.spec
     (λ c. search (needs, mark-is))
     (λ c. search (needs, mark-is))
-    (λ c κs. search (needs, mark-is))
+    (λ c κs. search needs)
     (λ c. search (needs, mark-is))
     (λ c. search (needs, mark-is))
-    (λ c. search (needs, mark-is))
+    (λ c. search needs)
     (λ c. search (needs, mark-is)))
