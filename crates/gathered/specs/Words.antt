@@ -1,4 +1,4 @@
--- What the walks over a program's bytes gather, as words, of the tree that stands at a position.
+-- The roles among an expression's labels, as a word: what the walk over its bytes gathers on either side.
 use Prim.Native.Nat.{ℕ, _^_}
 use mathlib.Core.List.{List}
 use mathlib.Core.Bool.{cond}

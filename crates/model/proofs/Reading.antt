@@ -1,6 +1,7 @@
--- What reading gives: each reader goes forward inside the bytes and passes on only numbers that it found below their bounds, so
--- what is read fits, stands where it must, and has its transactions' bodies inside it. What is not read is refused with 10 to
--- 14, since readers know no other number.
+-- Forward, from any bytes to what reading gives (`Standing` goes back, from a tree that was read to the bytes that it stands
+-- in): each reader goes on inside the bytes and passes on only numbers that it found below their bounds, so what is read fits,
+-- stands where it must, and has its transactions' bodies inside it. What is not read is refused with 10 to 14, since readers
+-- know no other number.
 use Prim.Native.Nat.{ℕ, zero, suc, _+_, _-_, _*_, _<_, _≤_}
 use native.Mathlib.Omega.{arith}
 use mathlib.Core.Path.{_≡_, refl, ap, _∙_}

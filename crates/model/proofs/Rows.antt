@@ -1,4 +1,4 @@
--- Where rows stand. Only these laws look into `rowBytes`, `rowAt`, `policyBytes` and `HasRow`: a row lies inside, rows lie apart, and where they stand is by the version.
+-- Where rows stand. Of the model's laws only these look into `rowBytes`, `rowAt`, `policyBytes` and `HasRow`: a row lies inside, rows lie apart, and where they stand is by the version.
 use Prim.Native.Nat.{ℕ, _+_, _<_, _≤_}
 use native.Mathlib.Omega.{arith}
 use mathlib.Core.Path.{_≡_, refl}

@@ -1,5 +1,6 @@
--- What a reading that was not refused says of the bytes: of each kind of expression and statement, what stands after its
--- code, where its parts were read and what was made of them. Depth, position and tree are those of the whole.
+-- Back, from a tree that was read to the bytes that it stands in (`Reading` goes forward, from any bytes to what reading
+-- gives): a refusal gives no tree, so each check of the reading held. Of each kind of expression and statement, what stands
+-- after its code, where its parts were read and what was made of them. Depth, position and tree are those of the whole.
 use mathlib.Core.Path.{_≡_, refl, sym, ap, _∙_}
 use mathlib.Core.Logic.{_⊎_, inl, inr, ⊎-elim}
 use Prim.Native.Nat.{ℕ, zero, suc, _+_, _-_, _*_, _<_, _≤_}

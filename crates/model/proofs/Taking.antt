@@ -1,4 +1,4 @@
--- What it says that a role may take in another. Only these laws look into `mayTake`.
+-- What it says that a role may take in another. Of the model's laws only these look into `mayTake`.
 use Prim.Native.Nat.{ℕ}
 use mathlib.Core.Path.{_≡_, _∙_}
 use mathlib.Core.List.{List}

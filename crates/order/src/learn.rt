@@ -1,4 +1,5 @@
-// One more known query: all that is at most its first atom is now at most all that its second atom is at most.
+// One more known query: all that is at most its first atom is now at most all that its second atom is at most. And whether
+// the table has it so already.
 ghost use mathlib.Core.Path.{_≡_};
 ghost use Prim.Native.Nat.{_+_, _<_, _≤_};
 ghost use lib.ListN.{length};
