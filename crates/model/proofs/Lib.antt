@@ -39,3 +39,4 @@ pub mod Confined
 pub mod InStep
 pub mod Demand3
 pub mod Examples
+pub mod Machine

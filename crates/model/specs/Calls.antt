@@ -4,6 +4,7 @@ use mathlib.Core.List.{List}
 use lib.ListN.{take, drop}
 use Rattle.model.specs.Number.{Verdict, numberOf, placeOf}
 use Rattle.model.specs.Flow.{Part, part, programVerdict, transactionPart}
+use Rattle.model.specs.Run.{Outcome, run}
 
 -- asking where a number shows: the number and the place
 pub data Located : Type 0 where
@@ -28,3 +29,13 @@ transactionAnswer s p k = bodyOf (programVerdict s p) (transactionPart s p k)
 -- the bytes of a part of the program
 unfoldable pub partBytes : List ℕ → Part → List ℕ
 partBytes p (part start size) = take size (drop start p)
+
+-- running: the number, the units, and the bytes of policy and memory at the end
+pub data Ended : Type 0 where
+  ended : (number units : ℕ) → (policy memory : List ℕ) → Ended
+
+unfoldable pub endOf : Outcome → Ended
+endOf o = ended (o .number) (o .units) (o .policy) (o .memory)
+
+abbrev pub runAnswer : List ℕ → List ℕ → List ℕ → ℕ → Ended
+runAnswer s p m fuel = endOf (run s p m fuel)

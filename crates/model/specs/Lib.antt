@@ -17,3 +17,4 @@ pub mod Run
 pub mod Spent
 pub mod Claim
 pub mod Calls
+pub mod Machine
