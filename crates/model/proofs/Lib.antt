@@ -40,3 +40,4 @@ pub mod InStep
 pub mod Demand3
 pub mod Examples
 pub mod Machine
+pub mod Linked

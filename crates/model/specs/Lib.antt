@@ -18,3 +18,4 @@ pub mod Spent
 pub mod Claim
 pub mod Calls
 pub mod Machine
+pub mod Linked
