@@ -41,3 +41,4 @@ pub mod Demand3
 pub mod Examples
 pub mod Machine
 pub mod Linked
+pub mod Linking

@@ -111,6 +111,10 @@ module _ (p : List ℕ) (vars : ℕ) where
   expr-gives (suc depth) at =
       then-gives (byte-gives p at) (λ code next h. earlier p (λ end e. ExprFits vars e) (omega arith) (expr-at-gives (readExpr p vars depth) (expr-gives depth) at code next))
 
+-- what was read of an expression ends where it starts, or behind
+pub expr-forward : (p : List ℕ) (vars depth at : ℕ) {e : Expr} {end : ℕ} → readExpr p vars depth at ≡ got e end → at ≤ end
+expr-forward p vars depth at h = gives-got (rw h at (expr-gives p vars depth at)) .0
+
 -- atoms, queries and mutations
 module _ (p : List ℕ) (R : ℕ) where
   atom-gives : (at : ℕ) → GivesFrom p (λ end a. AtomFits R a) at (readAtom p R at)
