@@ -7,7 +7,7 @@ use mathlib.Core.Path.{_≡_, refl, sym, _∙_, ap}
 use mathlib.Core.Bool.{Bool, true, false, cond}
 use lib.Dec.{eqb, ltb, leb}
 use lib.IntN.{ℤ, pos, negsuc, negℤ, natAbs, _+ℤ_, _-ℤ_, _*ℤ_, +ℤ-idl, +ℤ-idr, *ℤ-comm, negℤ-+ℤ, negℤ-negℤ, pos-ne-negsuc}
-use lib.Signed.{ltZ}
+use lib.Signed.{ltZ, quotZ}
 use borrow.Author.Tests.{le-leb, lt-leb, ltb-true, lt-ltb, le-ltb, eq-eqb, ne-eqb}
 use Rattle.model.specs.Syntax.{Operator, sum, difference, product, quotient, less, equal}
 use Rattle.model.specs.Value.{lowest, modulus, negate, asValue, quotientOf, apply}
@@ -59,7 +59,7 @@ product-integers a b =
     kept (a * b) (then-congruent (factor-congruent a (signed b)) second)
 
 -- a value by its sign
-signed-plain : (a : ℕ) → a < 2 ^ 31 → signed a ≡ pos a
+pub signed-plain : (a : ℕ) → a < 2 ^ 31 → signed a ≡ pos a
 unfolding signed
 signed-plain a l = rw (lt-leb (2 ^ 31) a l)
 
@@ -69,7 +69,7 @@ signed-minus a l h =
     let all : a + (2 ^ 32 - a) ≡ 0 + 2 ^ 32 = omega arith in
     rw (le-leb (2 ^ 31) a l) (moved (pos a) period (pos 0) (pos (2 ^ 32 - a)) (ap pos all) ∙ +ℤ-idl (negℤ (pos (2 ^ 32 - a))))
 
-signed-negsuc : (a : ℕ) → 2 ^ 31 ≤ a → a < 2 ^ 32 → signed a ≡ negsuc (2 ^ 32 - suc a)
+pub signed-negsuc : (a : ℕ) → 2 ^ 31 ≤ a → a < 2 ^ 32 → signed a ≡ negsuc (2 ^ 32 - suc a)
 signed-negsuc a l h = let one : 2 ^ 32 - a ≡ suc (2 ^ 32 - suc a) = omega arith in signed-minus a l h ∙ ap (λ n. negℤ (pos n)) one
 
 -- the order is the integers'
@@ -91,7 +91,7 @@ less-integers a b l k = ap asValue (go (decLt a (2 ^ 31)) (decLt b (2 ^ 31)))
     go (no p) (no q) = rw (signed-negsuc a (omega arith) l, signed-negsuc b (omega arith) k) (same (2 ^ 32 - suc b) (2 ^ 32 - suc a) (omega arith) (omega arith))
 
 -- different values stand for different integers
-signed-apart : (a b : ℕ) → a < 2 ^ 32 → b < 2 ^ 32 → signed a ≡ signed b → a ≡ b
+pub signed-apart : (a b : ℕ) → a < 2 ^ 32 → b < 2 ^ 32 → signed a ≡ signed b → a ≡ b
 signed-apart a b l k e = go (decLt a (2 ^ 31)) (decLt b (2 ^ 31))
   where
     go : Dec (a < 2 ^ 31) → Dec (b < 2 ^ 31) → a ≡ b
@@ -181,6 +181,26 @@ quotient-integers a b l k some fits = go (by-signs a b some)
         let n = 2 ^ 32 - a in
         let d = 2 ^ 32 - b in
         rw (signed-minus a p l, signed-minus b q k, signed-plain (n / d) (half n d (omega arith) (omega arith) (λ e f. fits (omega arith) (omega arith)))) (quotient-down n d (omega arith) (abs-neg (pos d)) (mul-neg (pos (n / d)) (pos d)))
+
+-- the same by the division of integers that a machine has
+pub quotient-divides : (a b : ℕ) → a < 2 ^ 32 → b < 2 ^ 32 → (b ≡ 0 → ⊥) → (a ≡ 2 ^ 31 → b ≡ 2 ^ 32 - 1 → ⊥)
+    → signed (apply quotient a b) ≡ quotZ (signed a) (signed b)
+quotient-divides a b l k some fits = go (by-signs a b some)
+  where
+    size : (c : ℕ) → c < 2 ^ 32 → suc (2 ^ 32 - suc c) ≡ 2 ^ 32 - c
+    size c h = omega arith
+
+    go : {v : ℕ} → BySigns a b v → signed v ≡ quotZ (signed a) (signed b)
+    go (plus-plus p q) = rw (signed-plain a p, signed-plain b q) (signed-plain (a / b) (omega (arith, div-le-self a b)))
+    go (plus-minus p q) =
+        rw (signed-plain a p, signed-negsuc b q k, size b k) (signed-negate (a / (2 ^ 32 - b)) (omega (arith, div-le-self a (2 ^ 32 - b))))
+    go (minus-plus p q) =
+        rw (signed-negsuc a p l, signed-plain b q, size a l) (signed-negate ((2 ^ 32 - a) / b) (omega (arith, div-le-self (2 ^ 32 - a) b)))
+    go (minus-minus p q) =
+        let n = 2 ^ 32 - a in
+        let d = 2 ^ 32 - b in
+        rw (signed-negsuc a p l, signed-negsuc b q k, size a l, size b k)
+        (signed-plain (n / d) (half n d (omega arith) (omega arith) (λ e f. fits (omega arith) (omega arith))))
 
 -- a divisor of 0 gives 0
 pub by-zero : (a : ℕ) → apply quotient a 0 ≡ 0
