@@ -238,28 +238,26 @@ module _ (s p t : List ℕ) (c : Context) (at : ℕ) where
         let n = write-same p t l y (w .parts .variables-are) (w .parts .roles-are) h s known K (stands-asked b) (w .parts .variables-below) (w .parts .roles-below) in
         rw (u .is, w .is, v, re, oo, n) (sides-checked (mayUpdate s p known C (w .listed) (w .xs) (w .rs) reading) (mayUpdate s p known C (w .listed) (w .xs) (w .rs) trust) at end)
 
-pub ruleset updates = (update-outside, update-grant, update-number)
-
 -- entering a transaction
-pub entered-is : (p : List ℕ) (d at q n l m w : ℕ) (v : Writes) → q ≡ ahead p at 1 → n ≡ byte p q → l ≡ ahead p at 2 → m ≡ afterList p at 2
-    → WritesAt p d m v → ListRolesAt p n l w
-    → EnteredAt p d at (record { inside = true; list = l; count = n; named = w; variables = v .variables; roles = v .roles })
+pub entered-is : (p : List ℕ) (d at q m : ℕ) (a : Around) (v : Writes) → a .inside ≡ true → q ≡ ahead p at 1 → a .count ≡ byte p q → a .list ≡ ahead p at 2
+    → m ≡ afterList p at 2 → WritesAt p d m v → ListRolesAt p (a .count) (a .list) (a .named) → a .variables ≡ v .variables → a .roles ≡ v .roles
+    → EnteredAt p d at a
 unfolding EnteredAt WritesAt ListRolesAt
-entered-is p d at q n l m w v e₁ e₂ e₃ e₄ f g P R vars listed body end few few′ h i j k fit =
-    let ne : n ≡ byte p (at + 1) = e₂ ∙ ap (byte p) (e₁ ∙ ahead-is p at 1 (omega arith)) in
-    let le : l ≡ at + 2 = e₃ ∙ ahead-is p at 2 (omega arith) in
+entered-is p d at q m a v flag e₁ e₂ e₃ e₄ f g vs rs P R vars listed body end few few′ h i j k fit =
+    let ne : a .count ≡ byte p (at + 1) = e₂ ∙ ap (byte p) (e₁ ∙ ahead-is p at 1 (omega arith)) in
+    let le : a .list ≡ at + 2 = e₃ ∙ ahead-is p at 2 (omega arith) in
     let me : m ≡ bodyStart p at = e₄ ∙ list-is p at 2 h in
     let x : v ≡ stmtWrites body end = f P R vars (few, few′) body end (rw me k) in
-    let y : readMany (readQuery p R) n l ≡ got listed (bodyStart p at) = rw (ne, le) i in
+    let y : readMany (readQuery p R) (a .count) (a .list) ≡ got listed (bodyStart p at) = rw (ne, le) i in
     record {
-      flag = refl;
+      flag = flag;
       end = bodyStart p at;
       listed-read = y;
       listed-below = j;
       named-are = g R listed (bodyStart p at) y;
-      variables-are = ap (λ (r : Writes). r .variables) x;
+      variables-are = vs ∙ ap (λ (r : Writes). r .variables) x;
       variables-below = assigned-below P R vars body fit;
-      roles-are = ap (λ (r : Writes). r .roles) x;
+      roles-are = rs ∙ ap (λ (r : Writes). r .roles) x;
       roles-below = mutated-below P R vars body fit;
     }
 
@@ -276,16 +274,12 @@ module _ (s p t : List ℕ) (c : Context) (d at : ℕ) (o : Answer) (f : Checked
       let k : m ≡ mid = reached-is _ (flow s p around known C y) mid end (reachedBy o) v m (ap reachedBy e) in
       g around known C y end st (rw k i) fit′ ∙ rw (or-reached _ (flow s p around known C y) mid end (reachedBy o) v m (ap reachedBy e))
 
-pub ruleset pairs = (pair-first, pair-second)
-
 -- what an accepted policy has: few roles
 pub roles-fit : (s t : List ℕ) (n : ℕ) → Ready s t → n ≡ roles s → n ≤ 64
 roles-fit s t n ready e = rw e (accepted-facts s (ready .is-accepted) .roles-fit)
 
 pub ready-too : (s t k : List ℕ) → Ready s t → length k ≡ tableWords → Ready s k
 ready-too s t k ready l = record { is-accepted = ready .is-accepted; long = l }
-
-pub ruleset readies = (roles-fit, ready-too)
 
 -- the branches of a query: the first by the table k, which also knows it, the second by the table t
 module _ (s p k t : List ℕ) (c : Context) (d at : ℕ) (o : Answer) (f : CheckedAt s p k c d at o) where
@@ -315,8 +309,6 @@ module _ (s p k t : List ℕ) (c : Context) (d at : ℕ) (o : Answer) (f : Check
       let e : m ≡ mid = reached-is _ (flow s p around known C y) mid end (reachedBy o) v m (ap reachedBy g) in
       w around known C y end st (rw e h′) fit′ ∙ rw (or-reached _ (flow s p around known C y) mid end (reachedBy o) v m (ap reachedBy g))
 
-pub ruleset branches = (branches-first, branches-second)
-
 -- with a table of its own
 module _ (s p t : List ℕ) (c : Context) (d at asked : ℕ) (o : QueryOf) (f : QueryAt p asked o) where
   pub learnt-none : (r : Answer) → o ≡ query.No → BranchesOf s p t c d at asked r
@@ -330,8 +322,6 @@ module _ (s p t : List ℕ) (c : Context) (d at asked : ℕ) (o : QueryOf) (f : 
     where
       learnt-same : (t k : List ℕ) {n m : ℕ} {q q′ : ModelQuery} → n ≡ m → q ≡ q′ → Learnt n t k q → Learnt m t k q′
       learnt-same t k e f l = rw (← e, ← f) l
-
-pub ruleset learnts = (learnt-none, learnt-both)
 
 -- a statement, by its code
 module _ (s p t : List ℕ) (c : Context) (d at : ℕ) where
@@ -514,11 +504,3 @@ module _ (s p t : List ℕ) (c : Context) (d at : ℕ) where
         pub stmt-coded : (one : Statement) → code ≡ one → CodedAt one s p t c d at r → CheckedAt s p t c d at r
         unfolding CodedAt
         stmt-coded one k f = f (statement-byte (byte p at) o i code j ∙ ap statementByte k)
-
-pub ruleset blocks = (block-start, block-done, block-refused, block-more)
-
-pub ruleset queries = (query-outside, query-unlisted, query-known, query-learnt)
-
-pub ruleset transactions = (transaction-nested, transaction-body)
-
-pub ruleset statements = (stmt-none, stmt-unknown, stmt-skip, stmt-assign, stmt-update, stmt-coded)

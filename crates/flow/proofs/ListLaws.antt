@@ -54,15 +54,15 @@ module _ (p : List ℕ) (at other x a : ℕ) (e : x ≡ byte p other) (f : a ≡
       let n : atomByte (q .first) ≡ atomByte (k .first) → ⊥ = λ z. h (cc (u .first-byte, v .first-byte)) in
       simp (ne-eqb _ _ n)
 
-  pub first-same : (m y n b : ℕ) → x ≡ a → m ≡ ahead p other 1 → y ≡ byte p m → n ≡ ahead p at 1 → b ≡ byte p n → SameAt p at other (eqb y b)
+  pub first-same : (m y n b : ℕ) (r : Bool) → x ≡ a → m ≡ ahead p other 1 → y ≡ byte p m → n ≡ ahead p at 1 → b ≡ byte p n → r ≡ eqb y b → SameAt p at other r
   unfolding SameAt
-  first-same m y n b h g₁ c₁ g₂ c₂ R k q end after i j =
+  first-same m y n b r h g₁ c₁ g₂ c₂ l R k q end after i j =
       let u = query-parts p R at i in
       let v = query-parts p R other j in
       let z : atomByte (q .first) ≡ atomByte (k .first) = cc (u .first-byte, v .first-byte) in
       let s : atomByte (k .second) ≡ b = cc (query-second p R at i) in
       let o : atomByte (q .second) ≡ y = cc (query-second p R other j) in
-      simp (eq-eqb _ _ z, s, o)
+      l ∙ simp (eq-eqb _ _ z, s, o)
 
 pub ruleset sames = (first-differs, first-same)
 
@@ -282,13 +282,13 @@ module _ (s p : List ℕ) (at : ℕ) (o : KindOf) (d : o ≡ kindOf (byte p at))
     kind-is : {m : Mutation} {end : ℕ} → readMutation p (principals s) (roles s) at ≡ got m end → m .kind ≡ modelKind k
     kind-is {m} e = sym (kind-at (m .kind)) ∙ ap kindAt (mutation-parts p (principals s) (roles s) at e .kind-byte ∙ kind-byte (byte p at) o d k j) ∙ code-kind k
 
-    pub member-deleted : k ≡ DeleteMember → OneAllowedAt s p at true
+    pub member-deleted : (r : Bool) → k ≡ DeleteMember → r ≡ true → OneAllowedAt s p at r
     unfolding OneAllowedAt allowed
-    member-deleted z m end e = rw (kind-is e ∙ ap modelKind z)
+    member-deleted r z h m end e = h ∙ rw (kind-is e ∙ ap modelKind z)
 
-    pub taken-deleted : k ≡ DeleteTaken → OneAllowedAt s p at true
+    pub taken-deleted : (r : Bool) → k ≡ DeleteTaken → r ≡ true → OneAllowedAt s p at r
     unfolding OneAllowedAt allowed
-    taken-deleted z m end e = rw (kind-is e ∙ ap modelKind z)
+    taken-deleted r z h m end e = h ∙ rw (kind-is e ∙ ap modelKind z)
 
     module _ (n m i x : ℕ) (e : n ≡ ahead p at 1) (f : m ≡ ahead p at 2) (g : i ≡ byte p n) (h : x ≡ byte p m) where
       role-is : {o : Mutation} {end : ℕ} → readMutation p (principals s) (roles s) at ≡ got o end → o .role ≡ i
@@ -310,8 +310,6 @@ module _ (s p : List ℕ) (at : ℕ) (o : KindOf) (d : o ≡ kindOf (byte p at))
           let v = taken-fits p (principals s) (roles s) at c (kind-byte (byte p at) o d k j ∙ ap kindByte z) in
           rw (kind-is c ∙ ap modelKind z, role-is c, operand-is c)
           (l (rw (role-is c) at (u .role-fits)) (rw (operand-is c) at v))
-
-pub ruleset one-laws = (kind-unknown, member-deleted, taken-deleted, member-added, taken-added)
 
 -- the answer for the `left` mutations from `here` on is the answer for all n
 module _ (s p : List ℕ) (n at : ℕ) where

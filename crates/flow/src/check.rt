@@ -75,17 +75,17 @@ fn check_update(
     requires { ⌜ (Accepted (now policy)) × (length (now table) ≡ tableWords) ⌝ }
     ensures { λ r. ⌜ UpdateAt (now (policy .entry)) (now (program .entry)) (now (table .entry)) context at r ⌝ }
 {
-    let around = context.around;
-    if around.inside {
+    let transaction = context.around;
+    if transaction.inside {
         let count = bytes::byte_at(program, positions::ahead(program, at, 1));
         if lists::all_allowed(policy, program, count, positions::ahead(program, at, 2)) {
-            let joined = context::with_named(context, around.named);
+            let joined = context::with_named(context, transaction.named);
             let number = judge::write_number(
                 program,
                 table,
                 joined,
-                around.variables,
-                around.roles,
+                transaction.variables,
+                transaction.roles,
             );
             return answer(
                 number,

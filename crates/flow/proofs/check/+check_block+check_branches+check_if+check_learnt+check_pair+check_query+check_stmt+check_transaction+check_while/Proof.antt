@@ -1,6 +1,6 @@
 -- The cycle of checks: each return is the verdict of the tree that stands at the position, by a law for that return; the
 -- remaining depth falls, and where it stays each callee comes after its caller. A block: what is left of it decides.
-use Rattle.flow.proofs.CheckLaws.{Blocking, readies, blocks, branches, if-checked, learnts, pairs, queries, statements, transactions, while-checked}
+use Rattle.flow.proofs.CheckLaws.{Blocking, pair-first, pair-second, roles-fit, ready-too, branches-first, branches-second, learnt-none, learnt-both, block-start, block-done, block-refused, block-more, if-checked, while-checked, query-outside, query-unlisted, query-known, query-learnt, transaction-nested, transaction-body, stmt-none, stmt-unknown, stmt-skip, stmt-assign, stmt-update, stmt-coded}
 use borrow.Author.Needs.{needs}
 use Prim.Native.Nat.{ℕ, _<_, _+_, _*_}
 use borrow.Fn.Kinds.{In}
@@ -209,15 +209,15 @@ pub +check-block+check-branches+check-if+check-learnt+check-pair+check-query+che
     (λ c κs. search needs)
     (λ c κs. search needs)
     (λ c κs. search needs)
-    (λ c. search (needs, blocks))
+    (λ c. search (needs, block-start))
     (λ c κs. search needs)
     (λ c. search needs)
     (λ c. search needs)
-    (λ c. search (needs, blocks))
+    (λ c. search (needs, block-refused))
     (λ c. search needs)
     (λ c. search needs)
-    (λ c. search (needs, blocks))
-    (λ c. search (needs, blocks)))
+    (λ c. search (needs, block-more))
+    (λ c. search (needs, block-done)))
     (λ t. check-branches-lts.spec
     (check-stmt-below t, check-stmt.Post)
     (check-branches-at t)
@@ -225,9 +225,9 @@ pub +check-block+check-branches+check-if+check-learnt+check-pair+check-query+che
     (λ c κs. search needs)
     (λ c. search needs)
     (λ c. search needs)
-    (λ c. search (needs, branches))
+    (λ c. search (needs, branches-first))
     (λ c κs. search needs)
-    (λ c. search (needs, branches)))
+    (λ c. search (needs, branches-second)))
     (λ t. check-if-lts.spec (
       ahead-reads.Asked,
       ahead-reads.Learnt,
@@ -261,12 +261,12 @@ pub +check-block+check-branches+check-if+check-learnt+check-pair+check-query+che
     (λ c κs. search needs)
     (λ c. search needs)
     (λ c. search needs)
-    (λ c. search (needs, learnts))
+    (λ c. search (needs, learnt-none))
     (λ c. search needs)
     (λ c κs. search needs)
-    (λ c κs. search (needs, readies))
-    (λ c κs. search (needs, readies))
-    (λ c. search (needs, learnts)))
+    (λ c κs. search (needs, roles-fit))
+    (λ c κs. search (needs, ready-too))
+    (λ c. search (needs, learnt-both)))
     (λ t. check-pair-lts.spec
     (check-stmt-below t, check-stmt.Post)
     (check-pair-at t)
@@ -274,9 +274,9 @@ pub +check-block+check-branches+check-if+check-learnt+check-pair+check-query+che
     (λ c κs. search needs)
     (λ c. search needs)
     (λ c. search needs)
-    (λ c. search (needs, pairs))
+    (λ c. search (needs, pair-first))
     (λ c κs. search needs)
-    (λ c. search (needs, pairs)))
+    (λ c. search (needs, pair-second)))
     (λ t. check-query-lts.spec (
       ahead-reads.Asked,
       ahead-reads.Learnt,
@@ -303,12 +303,12 @@ pub +check-block+check-branches+check-if+check-learnt+check-pair+check-query+che
     (λ c κs. search needs)
     (λ c. search needs)
     (λ c κs. search needs)
-    (λ c. search (needs, queries))
+    (λ c. search (needs, query-known))
     (λ c. search needs)
     (λ c κs. search needs)
-    (λ c. search (needs, queries))
-    (λ c. search (needs, queries))
-    (λ c. search (needs, queries)))
+    (λ c. search (needs, query-learnt))
+    (λ c. search (needs, query-unlisted))
+    (λ c. search (needs, query-outside)))
     (λ t. check-stmt-lts.spec (
       statement-at-reads.Asked,
       statement-at-reads.Learnt,
@@ -331,15 +331,11 @@ pub +check-block+check-branches+check-if+check-learnt+check-pair+check-query+che
     )
     (check-stmt-at t)
     check-stmt.Post
-    (λ c. search (needs, statements))
+    (λ c. search (needs, stmt-none))
     (λ c κs. search needs)
     (λ c. search needs)
     (λ c. search needs)
-    (λ c. search (needs, statements))
-    (λ c. search needs)
-    (λ c κs. search needs)
-    (λ c. search needs)
-    (λ c κs. search needs)
+    (λ c. search (needs, stmt-unknown))
     (λ c. search needs)
     (λ c κs. search needs)
     (λ c. search needs)
@@ -352,14 +348,18 @@ pub +check-block+check-branches+check-if+check-learnt+check-pair+check-query+che
     (λ c κs. search needs)
     (λ c. search needs)
     (λ c κs. search needs)
-    (λ c. search (needs, statements))
-    (λ c. search (needs, statements))
-    (λ c. search (needs, statements))
-    (λ c. search (needs, statements))
-    (λ c. search (needs, statements))
-    (λ c. search (needs, statements))
-    (λ c. search (needs, statements))
-    (λ c. search (needs, statements)))
+    (λ c. search needs)
+    (λ c κs. search needs)
+    (λ c. search needs)
+    (λ c κs. search needs)
+    (λ c. search (needs, stmt-skip))
+    (λ c. search (needs, stmt-assign))
+    (λ c. search (needs, stmt-coded))
+    (λ c. search (needs, stmt-coded))
+    (λ c. search (needs, stmt-coded))
+    (λ c. search (needs, stmt-coded))
+    (λ c. search (needs, stmt-update))
+    (λ c. search (needs, stmt-coded)))
     (λ t. check-transaction-lts.spec (
       after-list-reads.Asked,
       after-list-reads.Learnt,
@@ -372,13 +372,13 @@ pub +check-block+check-branches+check-if+check-learnt+check-pair+check-query+che
     )
     (check-transaction-at t)
     check-transaction.Post
-    (λ c. search (needs, transactions))
+    (λ c. search (needs, transaction-nested))
     (λ c. search needs)
     (λ c κs. search needs)
     (λ c κs. search needs)
     (λ c κs. search needs)
     (λ c κs. search needs)
-    (λ c. search (needs, transactions)))
+    (λ c. search (needs, transaction-body)))
     λ t. check-while-lts.spec (
       ahead-reads.Asked,
       ahead-reads.Learnt,

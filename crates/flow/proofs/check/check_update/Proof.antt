@@ -1,4 +1,4 @@
-use Rattle.flow.proofs.CheckLaws.{updates}
+use Rattle.flow.proofs.CheckLaws.{update-number, update-grant, update-outside}
 use borrow.Author.Needs.{needs}
 use Rattle.flow.proofs.check.check_update.Statement.{statement}
 use Rattle.flow.proofs.check.check_update.Tie as tie
@@ -24,6 +24,6 @@ check-update-spec =
     (λ c κs. search needs)
     (λ c κs. search needs)
     (λ c κs. search needs)
-    (λ c. search (needs, updates))
-    (λ c. search (needs, updates))
-    (λ c. search (needs, updates)))
+    (λ c. search (needs, update-number))
+    (λ c. search (needs, update-grant))
+    (λ c. search (needs, update-outside)))

@@ -1,4 +1,4 @@
-use Rattle.flow.proofs.ListLaws.{one-laws}
+use Rattle.flow.proofs.ListLaws.{kind-unknown, member-added, member-deleted, taken-added, taken-deleted}
 use borrow.Author.Needs.{needs}
 use Rattle.flow.proofs.lists.is_allowed.Statement.{statement}
 use Rattle.flow.proofs.lists.is_allowed.Tie as tie
@@ -17,7 +17,7 @@ is-allowed-spec =
     (λ c κs. search needs)
     (λ c. search needs)
     (λ c. search needs)
-    (λ c. search (needs, one-laws))
+    (λ c. search (needs, kind-unknown))
     (λ c κs. search needs)
     (λ c κs. search needs)
     (λ c κs. search needs)
@@ -28,7 +28,7 @@ is-allowed-spec =
     (λ c. search needs)
     (λ c κs. search needs)
     (λ c. search needs)
-    (λ c. search (needs, one-laws))
-    (λ c. search (needs, one-laws))
-    (λ c. search (needs, one-laws))
-    (λ c. search (needs, one-laws)))
+    (λ c. search (needs, member-added))
+    (λ c. search (needs, member-deleted))
+    (λ c. search (needs, taken-added))
+    (λ c. search (needs, taken-deleted)))
