@@ -206,7 +206,7 @@ module _ (s p t : List ℕ) (c : Context) (at : ℕ) where
       let u = update-parts p (principals s) (roles s) (variables p) d at h code in
       rw (u .is, within-none p (roles s) (variables p) (c .around) around (st .surrounded) e)
 
-  module _ (e : c .around .inside ≡ true) (q n m : ℕ) (b : Bool) (i : q ≡ ahead p at 1) (j : n ≡ byte p q) (k : m ≡ ahead p at 2) (f : AllowedAt s p n m b) where
+  module _ (q n m : ℕ) (b : Bool) (i : q ≡ ahead p at 1) (j : n ≡ byte p q) (k : m ≡ ahead p at 2) (f : AllowedAt s p n m b) where
     allowed-is : (d : ℕ) (x : Stmt) (end : ℕ) → Accepted s → (h : StmtAt s p d at x end) → (code : byte p at ≡ 6) → b ≡ allAllowed s (update-parts p (principals s) (roles s) (variables p) d at h code .mutations)
     unfolding AllowedAt
     allowed-is d x end ok h code =
@@ -215,28 +215,30 @@ module _ (s p t : List ℕ) (c : Context) (at : ℕ) where
         let me : m ≡ at + 2 = k ∙ ahead-is p at 2 (u .inside) in
         f (u .mutations) end ok (rw (ne, me) (u .mutations-read))
 
-    pub update-grant : b ≡ false → UpdateAt s p t c at (Refused 16 at)
+    pub update-grant : c .around .inside ≡ true → b ≡ false → UpdateAt s p t c at (Refused 16 at)
     unfolding UpdateAt CheckedAt flow checkedTo
-    update-grant g d code around known C x end st h fit =
+    update-grant e g d code around known C x end st h fit =
         let u = update-parts p (principals s) (roles s) (variables p) d at h code in
         let w = within-one p (roles s) (variables p) (c .around) around (st .surrounded) e in
         let v = sym (allowed-is d x end (st .is-accepted) h code) ∙ g in
         rw (u .is, w .is, v)
 
-    pub update-number : (l : Context) (y o : ℕ) (r : Answer) → b ≡ true → l ≡ withNamed c (c .around .named) → WriteNumber p t l (c .around .variables) (c .around .roles) y → o ≡ afterList p at 3 → reachedBy r ≡ numbered y at o → UpdateAt s p t c at r
-    unfolding UpdateAt CheckedAt WriteNumber flow mayUpdate allAbove
-    update-number l y o r g le h oe re d code around known C x end st i fit =
-        let u = update-parts p (principals s) (roles s) (variables p) d at i code in
-        let w = within-one p (roles s) (variables p) (c .around) around (st .surrounded) e in
-        let v = sym (allowed-is d x end (st .is-accepted) i code) ∙ g in
-        let ends = mutations-end p (principals s) (roles s) (byte p (at + 1)) (at + 2) (u .mutations-read) (u .inside) in
-        let oo : o ≡ end = oe ∙ list-is p at 3 (omega arith) ∙ sym (ends .0) in
-        let lc : l ≡ withNamed c (listRoles (w .listed)) = le ∙ ap (withNamed c) (w .parts .named-are) in
-        let cl : ContextIs (roles s) l (λ side. C side ++ listLabel side (w .listed)) = rw lc (context-list (roles s) c C (st .context) (roles-few st) (w .listed) (w .parts .listed-below)) in
-        let b = stands-context st (ap (λ (c : Context). c .around) lc) cl in
-        let K : Side → List Atom = λ side. C side ++ listLabel side (w .listed) in
-        let n = write-same p t l y (w .parts .variables-are) (w .parts .roles-are) h s known K (stands-asked b) (w .parts .variables-below) (w .parts .roles-below) in
-        rw (u .is, w .is, v, re, oo, n) (sides-checked (mayUpdate s p known C (w .listed) (w .xs) (w .rs) reading) (mayUpdate s p known C (w .listed) (w .xs) (w .rs) trust) at end)
+  pub update-number : (r : Answer) (y o : ℕ) (l : Context) (n m : ℕ) (b : Bool) (q : ℕ)
+      → c .around .inside ≡ true → reachedBy r ≡ numbered y at o → o ≡ afterList p at 3 → WriteNumber p t l (c .around .variables) (c .around .roles) y → l ≡ withNamed c (c .around .named)
+      → AllowedAt s p n m b → b ≡ true → n ≡ byte p q → q ≡ ahead p at 1 → m ≡ ahead p at 2 → UpdateAt s p t c at r
+  unfolding UpdateAt CheckedAt WriteNumber flow mayUpdate allAbove
+  update-number r y o l n m b q e re oe h le f g e₂ e₁ e₃ d code around known C x end st i fit =
+      let u = update-parts p (principals s) (roles s) (variables p) d at i code in
+      let w = within-one p (roles s) (variables p) (c .around) around (st .surrounded) e in
+      let v = sym (allowed-is q n m b e₁ e₂ e₃ f d x end (st .is-accepted) i code) ∙ g in
+      let ends = mutations-end p (principals s) (roles s) (byte p (at + 1)) (at + 2) (u .mutations-read) (u .inside) in
+      let oo : o ≡ end = oe ∙ list-is p at 3 (omega arith) ∙ sym (ends .0) in
+      let lc : l ≡ withNamed c (listRoles (w .listed)) = le ∙ ap (withNamed c) (w .parts .named-are) in
+      let cl : ContextIs (roles s) l (λ side. C side ++ listLabel side (w .listed)) = rw lc (context-list (roles s) c C (st .context) (roles-few st) (w .listed) (w .parts .listed-below)) in
+      let b = stands-context st (ap (λ (c : Context). c .around) lc) cl in
+      let K : Side → List Atom = λ side. C side ++ listLabel side (w .listed) in
+      let n = write-same p t l y (w .parts .variables-are) (w .parts .roles-are) h s known K (stands-asked b) (w .parts .variables-below) (w .parts .roles-below) in
+      rw (u .is, w .is, v, re, oo, n) (sides-checked (mayUpdate s p known C (w .listed) (w .xs) (w .rs) reading) (mayUpdate s p known C (w .listed) (w .xs) (w .rs) trust) at end)
 
 -- entering a transaction
 pub entered-is : (p : List ℕ) (d at q m : ℕ) (a : Around) (v : Writes) → a .inside ≡ true → q ≡ ahead p at 1 → a .count ≡ byte p q → a .list ≡ ahead p at 2

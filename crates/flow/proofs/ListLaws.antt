@@ -64,8 +64,6 @@ module _ (p : List ℕ) (at other x a : ℕ) (e : x ≡ byte p other) (f : a ≡
       let o : atomByte (q .second) ≡ y = cc (query-second p R other j) in
       l ∙ simp (eq-eqb _ _ z, s, o)
 
-pub ruleset sames = (first-differs, first-same)
-
 -- the answer for the `left` queries from `here` on is the answer for all n
 module _ (p : List ℕ) (n at other : ℕ) where
   unfoldable pub Listing : ℕ → ℕ → Type 0

@@ -2,6 +2,7 @@
 // first. Statement check and transaction check call each other, the remaining depth falling; a flag in the context forbids
 // nesting. Contracts speak of the tree that stands at a position; where none stands, any answer is right.
 ghost use mathlib.Core.Path.{_≡_};
+ghost use mathlib.Core.Bool.{true};
 ghost use Prim.Native.Nat.{_<_};
 ghost use lib.ListN.{length};
 ghost use Rattle.model.specs.Policy.{Accepted};
@@ -63,8 +64,39 @@ fn check_assign(
     answer(number, at, next)
 }
 
-// Only in a transaction, and it adds only what the policy file allows. The context joined with the labels of all listed
-// queries is at most all that the transaction writes.
+// An update in a transaction adds only what the policy file allows. The context joined with the labels of all listed queries
+// is at most all that the transaction writes.
+fn check_granted(
+    policy: &[u8],
+    program: &[u8],
+    table: &[u64; table::TABLE_WORDS],
+    context: Context,
+    at: usize,
+) -> Answer
+    requires { ⌜ (Accepted (now policy)) × (length (now table) ≡ tableWords) × (context .around .inside ≡ true) ⌝ }
+    ensures { λ r. ⌜ UpdateAt (now (policy .entry)) (now (program .entry)) (now (table .entry)) context at r ⌝ }
+{
+    let transaction = context.around;
+    let count = bytes::byte_at(program, positions::ahead(program, at, 1));
+    if lists::all_allowed(policy, program, count, positions::ahead(program, at, 2)) {
+        let joined = context::with_named(context, transaction.named);
+        let number = judge::write_number(
+            program,
+            table,
+            joined,
+            transaction.variables,
+            transaction.roles,
+        );
+        return answer(
+            number,
+            at,
+            positions::after_list(program, at, positions::MUTATION_BYTES),
+        );
+    }
+    Answer::Refused(number::FLOW_GRANT, at)
+}
+
+// Only in a transaction.
 fn check_update(
     policy: &[u8],
     program: &[u8],
@@ -77,23 +109,7 @@ fn check_update(
 {
     let transaction = context.around;
     if transaction.inside {
-        let count = bytes::byte_at(program, positions::ahead(program, at, 1));
-        if lists::all_allowed(policy, program, count, positions::ahead(program, at, 2)) {
-            let joined = context::with_named(context, transaction.named);
-            let number = judge::write_number(
-                program,
-                table,
-                joined,
-                transaction.variables,
-                transaction.roles,
-            );
-            return answer(
-                number,
-                at,
-                positions::after_list(program, at, positions::MUTATION_BYTES),
-            );
-        }
-        return Answer::Refused(number::FLOW_GRANT, at);
+        return check_granted(policy, program, table, context, at);
     }
     Answer::Refused(number::FLOW_TRANSACTION, at)
 }

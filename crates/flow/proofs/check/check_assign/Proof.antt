@@ -22,4 +22,4 @@ check-assign-spec =
     (λ c κs. search needs)
     (λ c κs. search needs)
     (λ c κs. search needs)
-    (λ c. search (needs, assign-checked)))
+    (λ c. search assign-checked depth 1 fits 20000))

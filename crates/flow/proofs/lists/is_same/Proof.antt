@@ -1,4 +1,4 @@
-use Rattle.flow.proofs.ListLaws.{sames}
+use Rattle.flow.proofs.ListLaws.{first-differs, first-same}
 use borrow.Author.Needs.{needs}
 use Rattle.flow.proofs.lists.is_same.Statement.{statement}
 use Rattle.flow.proofs.lists.is_same.Tie as tie
@@ -13,9 +13,9 @@ is-same-spec =
     (tie.spec
     (λ c κs. search needs)
     (λ c κs. search needs)
-    (λ c. search (needs, sames))
+    (λ c. search (needs, first-differs))
     (λ c κs. search needs)
     (λ c κs. search needs)
     (λ c κs. search needs)
     (λ c κs. search needs)
-    (λ c. search (needs, sames)))
+    (λ c. search first-same depth 1 fits 20000))
