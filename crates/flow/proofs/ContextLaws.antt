@@ -121,5 +121,3 @@ labels-are c l j k e f = rw (e, f)
 
 pub named-are : (c : Context) (n : ℕ) (j k : Join) → j ≡ joinWith (c .reading) 0 n → k ≡ joinWith (c .trust) 0 n → _≡_ {A = Context} (record { around = c .around; reading = j; trust = k }) (withNamed c n)
 named-are c n j k e f = rw (e, f)
-
-pub ruleset words = (start-is, labels-are, named-are)
