@@ -45,25 +45,24 @@ module _ (p : List ℕ) (R at : ℕ) {k : Query} {end : ℕ} (e : readQuery p R 
   query-after = let u = query-parts p R at e in u .ends ∙ sym (ahead-is p at 2 (u .inside))
 
 -- one query against another
-module _ (p : List ℕ) (at other : ℕ) where
-  pub first-differs : (x a : ℕ) → x ≡ byte p other → a ≡ byte p at → (x ≡ a → ⊥) → SameAt p at other false
+module _ (p : List ℕ) (at other x a : ℕ) (e : x ≡ byte p other) (f : a ≡ byte p at) where
+  pub first-differs : (x ≡ a → ⊥) → SameAt p at other false
   unfolding SameAt
-  first-differs x a e f h R k q end after i j =
+  first-differs h R k q end after i j =
       let u = query-parts p R at i in
       let v = query-parts p R other j in
       let n : atomByte (q .first) ≡ atomByte (k .first) → ⊥ = λ z. h (cc (u .first-byte, v .first-byte)) in
       simp (ne-eqb _ _ n)
 
-  pub first-same : (r : Bool) (y b m n x a : ℕ) → r ≡ eqb y b → y ≡ byte p m → m ≡ ahead p other 1 → b ≡ byte p n → n ≡ ahead p at 1
-      → x ≡ a → x ≡ byte p other → a ≡ byte p at → SameAt p at other r
+  pub first-same : (m y n b : ℕ) → x ≡ a → m ≡ ahead p other 1 → y ≡ byte p m → n ≡ ahead p at 1 → b ≡ byte p n → SameAt p at other (eqb y b)
   unfolding SameAt
-  first-same r y b m n x a l c₁ g₁ c₂ g₂ h e f R k q end after i j =
+  first-same m y n b h g₁ c₁ g₂ c₂ R k q end after i j =
       let u = query-parts p R at i in
       let v = query-parts p R other j in
       let z : atomByte (q .first) ≡ atomByte (k .first) = cc (u .first-byte, v .first-byte) in
       let s : atomByte (k .second) ≡ b = cc (query-second p R at i) in
       let o : atomByte (q .second) ≡ y = cc (query-second p R other j) in
-      l ∙ simp (eq-eqb _ _ z, s, o)
+      simp (eq-eqb _ _ z, s, o)
 
 -- the answer for the `left` queries from `here` on is the answer for all n
 module _ (p : List ℕ) (n at other : ℕ) where

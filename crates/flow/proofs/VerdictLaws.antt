@@ -14,7 +14,7 @@ use Rattle.model.proofs.Reading.{ProgramParts, program-parts}
 use Rattle.order.specs.Table.{Knows}
 use Rattle.program.specs.declared.answer.Answer.{Answer}
 use Rattle.program.specs.declared.answer.Answer.the-variants as answer
-use Rattle.program.specs.Answer.{Reached, reached, stopped, reachedBy, endOf}
+use Rattle.program.specs.Answer.{reached, stopped, reachedBy, endOf}
 use Rattle.gathered.specs.Labels.{LabelsBelow}
 use Rattle.flow.specs.declared.context.Context.{Context}
 use Rattle.flow.specs.declared.verdict.Verdict.{Verdict}

@@ -2,8 +2,6 @@ use Rattle.flow.proofs.CheckLaws.{answers}
 use borrow.Author.Needs.{needs}
 use Rattle.flow.proofs.check.answer.Statement.{statement}
 use Rattle.flow.proofs.check.answer.Tie as tie
-use Rattle.flow.proofs.check.answer.Reads as reads
-use Rattle.flow.proofs.check.answer.Lts as lts
 
 pub answer-spec : {M : Type 1} → statement M
 answer-spec = tie.close (tie.spec (λ c. search (needs, answers)) (λ c. search (needs, answers)))

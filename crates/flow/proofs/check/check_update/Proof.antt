@@ -2,9 +2,6 @@ use Rattle.flow.proofs.CheckLaws.{update-outside}
 use borrow.Author.Needs.{needs}
 use Rattle.flow.proofs.check.check_update.Statement.{statement}
 use Rattle.flow.proofs.check.check_update.Tie as tie
-use Rattle.flow.proofs.check.check_update.Reads as reads
-use Rattle.flow.proofs.check.check_update.Lts as lts
-use Rattle.flow.proofs.check.check_granted.Reads as check-granted-reads
 
 pub check-update-spec : {M : Type 1} → statement M
 check-update-spec = tie.close (tie.spec (λ c κs. search needs) (λ c. search needs) (λ c. search (needs, update-outside)))

@@ -1,13 +1,9 @@
+-- An answer for what is left of the set is one for the whole: the lowest number leaves it where it passes, and decides where not.
 use Rattle.flow.proofs.JudgeLaws.{Left, alls, fewer}
 use Rattle.program.specs.Layout.{sideOf}
 use borrow.Author.Needs.{needs}
 use Rattle.flow.proofs.judge.all_below.Statement.{statement}
 use Rattle.flow.proofs.judge.all_below.Tie as tie
-use Rattle.flow.proofs.judge.all_below.Reads as reads
-use Rattle.flow.proofs.judge.all_below.Lts as lts
-use Rattle.flow.proofs.judge.one_below.Reads as one-below-reads
-use Rattle.shared.proofs.sets.lowest.Reads as lowest-reads
-use Rattle.shared.proofs.sets.without_lowest.Reads as without-lowest-reads
 
 abbrev Inv-loop : tie.InvT-loop
 Inv-loop program table context trust written set left₀ left = Left program table context (sideOf trust) written left set

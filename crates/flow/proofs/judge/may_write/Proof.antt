@@ -2,9 +2,6 @@ use Rattle.flow.proofs.JudgeLaws.{numbers}
 use borrow.Author.Needs.{needs}
 use Rattle.flow.proofs.judge.may_write.Statement.{statement}
 use Rattle.flow.proofs.judge.may_write.Tie as tie
-use Rattle.flow.proofs.judge.may_write.Reads as reads
-use Rattle.flow.proofs.judge.may_write.Lts as lts
-use Rattle.flow.proofs.judge.all_below.Reads as all-below-reads
 
 pub may-write-spec : {M : Type 1} → statement M
 may-write-spec = tie.close (tie.spec (λ c κs. search needs) (λ c κs. search needs) (λ c. search (needs, numbers)) (λ c. search (needs, numbers)))

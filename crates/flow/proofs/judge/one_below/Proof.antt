@@ -2,10 +2,6 @@ use Rattle.flow.proofs.JudgeLaws.{ones}
 use borrow.Author.Needs.{needs}
 use Rattle.flow.proofs.judge.one_below.Statement.{statement}
 use Rattle.flow.proofs.judge.one_below.Tie as tie
-use Rattle.flow.proofs.judge.one_below.Reads as reads
-use Rattle.flow.proofs.judge.one_below.Lts as lts
-use Rattle.flow.proofs.judge.below.Reads as below-reads
-use Rattle.flow.proofs.judge.target.Reads as target-reads
 
 pub one-below-spec : {M : Type 1} → statement M
 one-below-spec =

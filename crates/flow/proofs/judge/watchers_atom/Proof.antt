@@ -2,8 +2,6 @@ use Rattle.flow.proofs.JudgeLaws.{watchers}
 use borrow.Author.Needs.{needs}
 use Rattle.flow.proofs.judge.watchers_atom.Statement.{statement}
 use Rattle.flow.proofs.judge.watchers_atom.Tie as tie
-use Rattle.flow.proofs.judge.watchers_atom.Reads as reads
-use Rattle.flow.proofs.judge.watchers_atom.Lts as lts
 
 pub watchers-atom-spec : {M : Type 1} → statement M
 watchers-atom-spec = tie.close (tie.spec (λ c. search (needs, watchers)) (λ c. search (needs, watchers)))

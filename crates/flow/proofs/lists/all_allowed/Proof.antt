@@ -1,11 +1,8 @@
+-- The answer for the mutations that are left is the answer for all: one that is allowed may go.
 use Rattle.flow.proofs.ListLaws.{Allowing, allowings}
 use borrow.Author.Needs.{needs}
 use Rattle.flow.proofs.lists.all_allowed.Statement.{statement}
 use Rattle.flow.proofs.lists.all_allowed.Tie as tie
-use Rattle.flow.proofs.lists.all_allowed.Reads as reads
-use Rattle.flow.proofs.lists.all_allowed.Lts as lts
-use Rattle.flow.proofs.lists.is_allowed.Reads as is-allowed-reads
-use Rattle.gathered.proofs.positions.ahead.Reads as ahead-reads
 
 abbrev Inv-loop : tie.InvT-loop
 Inv-loop policy program n at left₀ here₀ left here = Allowing policy program n at left here

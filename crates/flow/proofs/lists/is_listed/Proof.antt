@@ -1,11 +1,8 @@
+-- The answer for the queries that are left is the answer for all: one that is not the asked one may go.
 use Rattle.flow.proofs.ListLaws.{Listing, listings}
 use borrow.Author.Needs.{needs}
 use Rattle.flow.proofs.lists.is_listed.Statement.{statement}
 use Rattle.flow.proofs.lists.is_listed.Tie as tie
-use Rattle.flow.proofs.lists.is_listed.Reads as reads
-use Rattle.flow.proofs.lists.is_listed.Lts as lts
-use Rattle.flow.proofs.lists.is_same.Reads as is-same-reads
-use Rattle.gathered.proofs.positions.ahead.Reads as ahead-reads
 
 abbrev Inv-loop : tie.InvT-loop
 Inv-loop program n at other left₀ here₀ left here = Listing program n at other left here

@@ -1,11 +1,8 @@
+-- The roles found so far, with those of the queries that are left, are the roles of all.
 use Rattle.flow.proofs.ListLaws.{Naming, namings}
 use borrow.Author.Needs.{needs}
 use Rattle.flow.proofs.lists.list_roles.Statement.{statement}
 use Rattle.flow.proofs.lists.list_roles.Tie as tie
-use Rattle.flow.proofs.lists.list_roles.Reads as reads
-use Rattle.flow.proofs.lists.list_roles.Lts as lts
-use Rattle.flow.proofs.lists.query_roles.Reads as query-roles-reads
-use Rattle.gathered.proofs.positions.ahead.Reads as ahead-reads
 
 abbrev Inv-loop : tie.InvT-loop
 Inv-loop program n at found₀ unread₀ here₀ found unread here = Naming program n at found unread here

@@ -2,10 +2,6 @@ use Rattle.flow.proofs.ListLaws.{query-reads}
 use borrow.Author.Needs.{needs}
 use Rattle.flow.proofs.lists.query_at.Statement.{statement}
 use Rattle.flow.proofs.lists.query_at.Tie as tie
-use Rattle.flow.proofs.lists.query_at.Reads as reads
-use Rattle.flow.proofs.lists.query_at.Lts as lts
-use Rattle.gathered.proofs.positions.ahead.Reads as ahead-reads
-use Rattle.gathered.proofs.positions.atom_at.Reads as atom-at-reads
 
 pub query-at-spec : {M : Type 1} → statement M
 query-at-spec =

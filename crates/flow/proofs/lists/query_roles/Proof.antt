@@ -2,10 +2,6 @@ use Rattle.flow.proofs.ListLaws.{query-names}
 use borrow.Author.Needs.{needs}
 use Rattle.flow.proofs.lists.query_roles.Statement.{statement}
 use Rattle.flow.proofs.lists.query_roles.Tie as tie
-use Rattle.flow.proofs.lists.query_roles.Reads as reads
-use Rattle.flow.proofs.lists.query_roles.Lts as lts
-use Rattle.flow.proofs.lists.named_roles.Reads as named-roles-reads
-use Rattle.flow.proofs.lists.query_at.Reads as query-at-reads
 
 pub query-roles-spec : {M : Type 1} → statement M
 query-roles-spec =

@@ -2,10 +2,6 @@ use Rattle.flow.proofs.VerdictLaws.{policies}
 use borrow.Author.Needs.{needs}
 use Rattle.flow.proofs.verdict.program_verdict.Statement.{statement}
 use Rattle.flow.proofs.verdict.program_verdict.Tie as tie
-use Rattle.flow.proofs.verdict.program_verdict.Reads as reads
-use Rattle.flow.proofs.verdict.program_verdict.Lts as lts
-use Rattle.flow.proofs.verdict.read_verdict.Reads as read-verdict-reads
-use Rattle.policy.proofs.check.policy_number.Reads as policy-number-reads
 
 pub program-verdict-spec : {M : Type 1} → statement M
 program-verdict-spec =
