@@ -62,7 +62,7 @@ answer-refused k place end n = rw (ne-eqb k 0 n)
 
 pub ruleset answers = (answer-fine, answer-refused)
 
-reached-not : {A : Type 0} {m k place : ℕ} → reached m ≡ stopped k place → A
+pub reached-not : {A : Type 0} {m k place : ℕ} → reached m ≡ stopped k place → A
 reached-not e = let z : _≡_ {A = ℕ} 0 1 = cc in absurd (omega arith)
 
 sides-checked : (a b : Bool) (at end : ℕ) → numbered (sidesNumber a b) at end ≡ checkedTo (require a 17 at (require b 18 at fine)) end
@@ -276,9 +276,9 @@ module _ (s p t : List ℕ) (c : Context) (d at : ℕ) (o : Answer) (f : Checked
       let k : m ≡ mid = reached-is _ (flow s p around known C y) mid end (reachedBy o) v m (ap reachedBy e) in
       g around known C y end st (rw k i) fit′ ∙ rw (or-reached _ (flow s p around known C y) mid end (reachedBy o) v m (ap reachedBy e))
 
--- what an accepted policy has: few roles
-pub roles-fit : (s t : List ℕ) (n : ℕ) → Ready s t → n ≡ roles s → n ≤ 64
-roles-fit s t n ready e = rw e (accepted-facts s (ready .is-accepted) .roles-fit)
+-- an accepted policy has few roles
+pub few-roles : (s : List ℕ) (n : ℕ) → Accepted s → n ≡ roles s → n ≤ roleLimit
+few-roles s n ok e = rw e (accepted-facts s ok .roles-fit)
 
 pub ready-too : (s t k : List ℕ) → Ready s t → length k ≡ tableWords → Ready s k
 ready-too s t k ready l = record { is-accepted = ready .is-accepted; long = l }

@@ -9,7 +9,6 @@ use Rattle.model.specs.Policy.{reading, trust, principals, roles, policyNumber,
 use Rattle.model.specs.Syntax.{Stmt}
 use Rattle.model.specs.Program.{Read as Reading, got, bad, variables, bodyAt, readProgram}
 use Rattle.model.specs.Flow.{outside, flow, bodyVerdict, programVerdict}
-use Rattle.model.proofs.Accepted.{accepted-facts}
 use Rattle.model.proofs.Reading.{ProgramParts, program-parts}
 use Rattle.order.specs.Table.{Knows}
 use Rattle.program.specs.declared.answer.Answer.{Answer}
@@ -23,6 +22,7 @@ use Rattle.flow.specs.Context.{noContext}
 use Rattle.flow.specs.Check.{checkedTo, Ready, CheckedAt}
 use Rattle.flow.specs.Verdict.{verdictOf, BodyVerdict}
 use Rattle.flow.proofs.ContextLaws.{context-none}
+use Rattle.flow.proofs.CheckLaws.{reached-not}
 
 -- the labels of a program that was read
 labels-below : (p : List ℕ) (P R : ℕ) {x : Stmt} {end : ℕ} → ProgramParts p P R x end → LabelsBelow R p (variables p)
@@ -33,9 +33,6 @@ labels-below p P R u trust v l n = let k : 6 + (2 * v + 1) ≡ 7 + 2 * v = omega
 -- the check may begin
 pub body-ready : (s t : List ℕ) → Accepted s → Knows s [] t → Ready s t
 body-ready s t ok k = record { is-accepted = ok; long = k .long }
-
-stopped-not : {A : Type 0} {m k place : ℕ} → reached m ≡ stopped k place → A
-stopped-not e = let z : _≡_ {A = ℕ} 0 1 = cc in absurd (omega arith)
 
 module _ (s p t : List ℕ) (n start : ℕ) (c : Context) (ok : Accepted s) (k : Knows s [] t) (e₁ : n ≡ variables p) (e₂ : start ≡ bodyAt n) (ec : c ≡ noContext) (o : Answer)
     (f : CheckedAt s p t c 32 start o) where
@@ -59,29 +56,26 @@ module _ (s p t : List ℕ) (n start : ℕ) (c : Context) (ok : Accepted s) (k :
     where
       go : (v : Judgement) → reached m ≡ checkedTo v end → fine ≡ v
       go fine e = refl
-      go (refused n place) e = stopped-not e
+      go (refused n place) e = reached-not e
 
   pub body-refused : (l place : ℕ) → o ≡ answer.Refused l place → BodyVerdict s p (Refused l place)
   unfolding BodyVerdict checkedTo
   body-refused l place g x end h = go (flow s p outside [] (λ side. []) x) (ap reachedBy (sym g) ∙ body-is x end h)
     where
       go : (v : Judgement) → stopped l place ≡ checkedTo v end → refused l place ≡ v
-      go fine e = stopped-not (sym e)
+      go fine e = reached-not (sym e)
       go (refused m q) e = cc
 
 pub ruleset bodies = (body-ready, body-fine, body-refused)
 
 -- the reading
-pub few-roles : (s : List ℕ) (n : ℕ) → Accepted s → n ≡ roles s → n ≤ 64
-few-roles s n ok e = rw e (accepted-facts s ok .roles-fit)
-
 module _ (s p : List ℕ) (P R : ℕ) (e₁ : P ≡ principals s) (e₂ : R ≡ roles s) (o : Answer) (h : reachedBy o ≡ endOf (readProgram p P R)) where
   pub read-refused : (k place : ℕ) → o ≡ answer.Refused k place → refused k place ≡ bodyVerdict s p (readProgram p (principals s) (roles s))
   unfolding endOf bodyVerdict
   read-refused k place g = go (readProgram p (principals s) (roles s)) (ap reachedBy (sym g) ∙ h ∙ rw (e₁, e₂))
     where
       go : (r : Reading Stmt) → stopped k place ≡ endOf r → refused k place ≡ bodyVerdict s p r
-      go (got x end) e = stopped-not (sym e)
+      go (got x end) e = reached-not (sym e)
       go (bad m q) e = cc
 
   pub read-body : (m : ℕ) (r : Verdict) → o ≡ answer.At m → BodyVerdict s p r → verdictOf r ≡ bodyVerdict s p (readProgram p (principals s) (roles s))
@@ -90,9 +84,7 @@ module _ (s p : List ℕ) (P R : ℕ) (e₁ : P ≡ principals s) (e₂ : R ≡ 
     where
       go : (b : Reading Stmt) → reached m ≡ endOf b → ((x : Stmt) (end : ℕ) → b ≡ got x end → verdictOf r ≡ flow s p outside [] (λ side. []) x) → verdictOf r ≡ bodyVerdict s p b
       go (got x end) e f = f x end refl
-      go (bad k q) e f = stopped-not e
-
-pub ruleset readings = (few-roles, read-refused, read-body)
+      go (bad k q) e f = reached-not e
 
 -- the policy's number
 module _ (s p : List ℕ) (n : ℕ) (e : n ≡ policyNumber s) where

@@ -250,7 +250,7 @@ fn check_while(
     check_stmt(policy, program, table, inner, depth - 1, start)
 }
 
-// Only in a transaction whose list holds that pair. A query that the table knows already needs no table of its own: so
+// Only in a transaction whose list holds it. A query that the table knows already needs no table of its own: so
 // however deep queries nest, no more tables are held at once than a transaction lists queries.
 fn check_query(
     policy: &[u8],
@@ -295,25 +295,25 @@ fn check_learnt(
     let QueryOf::Is(first, second) = lists::query_at(program, asked) else {
         return Answer::Refused(number::PROGRAM_CODE, asked);
     };
-    let mut known = *table;
-    order::learn::learn(&mut known, rows::roles_of(policy), first, second);
-    check_branches(policy, program, &known, table, context, depth, at)
+    let mut learnt = *table;
+    order::learn::learn(&mut learnt, rows::roles_of(policy), first, second);
+    check_branches(policy, program, &learnt, table, context, depth, at)
 }
 
-// The first branch also knows the query, by the table `known`; the second does not.
+// The first branch also knows the query, by the table `learnt`; the second does not.
 fn check_branches(
     policy: &[u8],
     program: &[u8],
-    known: &[u64; table::TABLE_WORDS],
+    learnt: &[u64; table::TABLE_WORDS],
     table: &[u64; table::TABLE_WORDS],
     context: Context,
     depth: u8,
     at: usize,
 ) -> Answer
-    requires { ⌜ (Ready (now policy) (now known)) × (Ready (now policy) (now table)) ⌝ }
-    ensures { λ r. ⌜ BothAt (now (policy .entry)) (now (program .entry)) (now (known .entry)) (now (table .entry)) context depth at r ⌝ }
+    requires { ⌜ (Ready (now policy) (now learnt)) × (Ready (now policy) (now table)) ⌝ }
+    ensures { λ r. ⌜ BothAt (now (policy .entry)) (now (program .entry)) (now (learnt .entry)) (now (table .entry)) context depth at r ⌝ }
 {
-    let one = check_stmt(policy, program, known, context, depth, at);
+    let one = check_stmt(policy, program, learnt, context, depth, at);
     let Answer::At(other) = one else {
         return one;
     };

@@ -1,6 +1,6 @@
 -- The cycle of checks: each return is the verdict of the tree that stands at the position, by a law for that return; the
 -- remaining depth falls, and where it stays each callee comes after its caller. A block: what is left of it decides.
-use Rattle.flow.proofs.CheckLaws.{Blocking, pair-first, pair-second, roles-fit, ready-too, branches-first, branches-second, learnt-none, learnt-both, block-start, block-done, block-refused, block-more, if-checked, while-checked, query-outside, query-unlisted, query-known, query-learnt, transaction-nested, transaction-body, stmt-none, stmt-unknown, stmt-skip, stmt-assign, stmt-update, stmt-coded}
+use Rattle.flow.proofs.CheckLaws.{Blocking, pair-first, pair-second, few-roles, ready-too, branches-first, branches-second, learnt-none, learnt-both, block-start, block-done, block-refused, block-more, if-checked, while-checked, query-outside, query-unlisted, query-known, query-learnt, transaction-nested, transaction-body, stmt-none, stmt-unknown, stmt-skip, stmt-assign, stmt-update, stmt-coded}
 use borrow.Author.Needs.{needs}
 use Prim.Native.Nat.{ℕ, _<_, _+_, _*_}
 use borrow.Fn.Kinds.{In}
@@ -264,7 +264,7 @@ pub +check-block+check-branches+check-if+check-learnt+check-pair+check-query+che
     (λ c. search (needs, learnt-none))
     (λ c. search needs)
     (λ c κs. search needs)
-    (λ c κs. search (needs, roles-fit))
+    (λ c κs. search (needs, few-roles))
     (λ c κs. search (needs, ready-too))
     (λ c. search (needs, learnt-both)))
     (λ t. check-pair-lts.spec

@@ -1,4 +1,5 @@
-use Rattle.flow.proofs.VerdictLaws.{readings}
+use Rattle.flow.proofs.CheckLaws.{few-roles}
+use Rattle.flow.proofs.VerdictLaws.{read-refused, read-body}
 use borrow.Author.Needs.{needs}
 use Rattle.flow.proofs.verdict.read_verdict.Statement.{statement}
 use Rattle.flow.proofs.verdict.read_verdict.Tie as tie
@@ -9,9 +10,9 @@ read-verdict-spec =
     (tie.spec
     (λ c κs. search needs)
     (λ c κs. search needs)
-    (λ c κs. search (needs, readings))
+    (λ c κs. search (needs, few-roles))
     (λ c. search needs)
     (λ c κs. search needs)
     (λ c. search needs)
-    (λ c. search (needs, readings))
-    (λ c. search (needs, readings)))
+    (λ c. search (needs, read-body))
+    (λ c. search (needs, read-refused)))
