@@ -10,7 +10,7 @@ use mathlib.Core.Bool.{Bool, true, false, true≢false}
 use lib.Bits.{bitOr}
 use lib.ListN.{length}
 use borrow.Author.Tests.{ne-eqb}
-use Rattle.model.specs.Limits.{roleLimit}
+use Rattle.model.specs.Limits.{roleLimit, expressionDepth}
 use Rattle.model.specs.Number.{Verdict, fine, refused, require, orElse}
 use Rattle.model.specs.Bytes.{byte}
 use Rattle.model.specs.Policy.{Side, reading, trust, principals, roles, Accepted}
@@ -154,7 +154,7 @@ module _ {s p t : List ℕ} {c : Context} {around : Surroundings} {known : List 
     context = h;
   }
 
-  labels-are : (q : ℕ) (l : Labels) (e : Expr) (end : ℕ) → LabelsAt p 16 q l → readExpr p (variables p) 16 q ≡ got e end → l ≡ exprLabels p e end
+  labels-are : (q : ℕ) (l : Labels) (e : Expr) (end : ℕ) → LabelsAt p expressionDepth q l → readExpr p (variables p) expressionDepth q ≡ got e end → l ≡ exprLabels p e end
   unfolding LabelsAt LabelsBelow
   labels-are q l e end f h = f (variables p) (λ side x i n. lt-of-lt-of-le (st .labels side x i n) roles-few) e end h
 
@@ -181,7 +181,7 @@ within-none p R vars a (inside listed xs rs) h e = absurd (true≢false (sym (h 
 
 -- an assignment
 pub assign-checked : (p t : List ℕ) (c : Context) (at q x m : ℕ) (l : Labels) (k : Context) (n : ℕ) (r : Answer)
-    → q ≡ ahead p at 1 → x ≡ byte p q → m ≡ ahead p at 2 → LabelsAt p 16 m l → k ≡ withLabels c l
+    → q ≡ ahead p at 1 → x ≡ byte p q → m ≡ ahead p at 2 → LabelsAt p expressionDepth m l → k ≡ withLabels c l
     → AssignNumber p t k x n → reachedBy r ≡ numbered n at (l .next) → AssignAt p t c at r
 unfolding AssignAt CheckedAt AssignNumber flow mayAssign
 assign-checked p t c at q x m l k n r e₁ e₂ e₃ f g h j s d code around known C y end st i fit =
@@ -380,7 +380,7 @@ module _ (s p t : List ℕ) (c : Context) (d at : ℕ) where
           }
 
   -- an if, a while
-  module _ (q : ℕ) (l : Labels) (k : Context) (r : Answer) (e : q ≡ ahead p at 1) (f : LabelsAt p 16 q l) (g : k ≡ withLabels c l) where
+  module _ (q : ℕ) (l : Labels) (k : Context) (r : Answer) (e : q ≡ ahead p at 1) (f : LabelsAt p expressionDepth q l) (g : k ≡ withLabels c l) where
     pub if-checked : PairAt s p t k (d - 1) (l .next) r → CodedAt If s p t c d at r
     unfolding CodedAt CheckedAt PairAt flow
     if-checked h code around known C x end st i fit =

@@ -6,6 +6,7 @@ use mathlib.Core.Bool.{Bool, true, false, cond}
 use lib.Bits.{or-comm}
 use lib.Dec.{eqb}
 use borrow.Author.Tests.{eqb-true, eqb-false}
+use Rattle.model.specs.Limits.{roleLimit}
 use Rattle.model.specs.Policy.{Side, reading, trust}
 use Rattle.model.specs.Syntax.{everyone, Atom, role, fixed, atomByte, Query, Expr, constant, variable, binary}
 use Rattle.model.specs.Flow.{labelAtom, label, exprLabel, queryLabel, listLabel}
@@ -99,7 +100,7 @@ module _ (n : ℕ) (c : Context) (C : Side → List Atom) (is : ContextIs n c C)
   named-last join named f reading = rw (or-comm 0 (c .reading .roles), or-comm named (c .reading .watchers)) (joins-append reading (is .joined reading) (f reading))
   named-last join named f trust = rw (or-comm 0 (c .trust .roles), or-comm named (c .trust .watchers)) (joins-append trust (is .joined trust) (f trust))
 
-  module _ (few : n ≤ 64) where
+  module _ (few : n ≤ roleLimit) where
     pub context-query : (q : Query) → QueryFits n q → ContextIs n (withNamed c (queryRoles q)) (λ side. queryLabel side q ++ C side)
     context-query q f = record {
       joined = named-first (λ side. queryLabel side q) (queryRoles q) (λ side. joins-query side n few q f);

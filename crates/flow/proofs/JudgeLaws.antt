@@ -93,7 +93,7 @@ module _ (b : Bool) (x : ℕ) where
 
 pub ruleset watchers = (watchers-trust, watchers-reading)
 
-label-names : (n : ℕ) (o : AtomOf) → AtomFits 64 (labelAtom n) → o ≡ atomOf n → Names o (labelAtom n)
+label-names : (n : ℕ) (o : AtomOf) → AtomFits roleLimit (labelAtom n) → o ≡ atomOf n → Names o (labelAtom n)
 label-names n o f e = record {
   named = codeAtom (labelAtom n);
   is = e ∙ ap atomOf (sym (label-byte n)) ∙ byte-atom (labelAtom n) f;
@@ -104,7 +104,7 @@ module _ (p : List ℕ) (side : Side) (w : Written) (x : ℕ) where
   pub target-variable : (y : ℕ) (o : AtomOf) → w ≡ Variable → y ≡ labelByte p side x → o ≡ atomOf y → TargetAt p side w x o
   unfolding TargetAt LabelsBelow label
   target-variable y o k e f s ok labels l =
-      rw k (label-names (labelByte p side x) o (atom-below (labelByte p side x) 64 (λ n. lt-of-lt-of-le (labels side x (rw k at l) n) (accepted-facts s ok .roles-fit))) (f ∙ ap atomOf e))
+      rw k (label-names (labelByte p side x) o (atom-below (labelByte p side x) roleLimit (λ n. lt-of-lt-of-le (labels side x (rw k at l) n) (accepted-facts s ok .roles-fit))) (f ∙ ap atomOf e))
 
   pub target-role : (a : CodeAtom) → w ≡ Role → modelAtom a ≡ fixed (of side x) → TargetAt p side w x (atom.Is a)
   unfolding TargetAt

@@ -8,6 +8,7 @@ use native.Mathlib.Omega.{arith}
 use lib.Dec.{eqb, ltb}
 use lib.Bits.{bitOr, or-zero-l, or-zero-r}
 use borrow.Author.Tests.{ltb-true, eq-eqb, ne-eqb, not-true, not-false}
+use Rattle.model.specs.Limits.{roleLimit}
 use Rattle.model.specs.Number.{programRange}
 use Rattle.model.specs.Bytes.{byte}
 use Rattle.model.specs.Policy.{reading, trust, Accepted, principals, roles, HasRow, mayHold, mayTake}
@@ -94,31 +95,31 @@ module _ (p : List ℕ) (n at other : ℕ) where
 
 pub ruleset listings = (listing-starts, listing-ends, listing-finds, listing-goes-on)
 
--- an atom that was read names a role below 64, by its byte
-atom-at-small : (R at x next : ℕ) {a : Atom} {end : ℕ} → atomAt R at x next ≡ got a end → AtomFits 64 a
+-- an atom that was read names a role below the limit, by its byte
+atom-at-small : (R at x next : ℕ) {a : Atom} {end : ℕ} → atomAt R at x next ≡ got a end → AtomFits roleLimit a
 unfolding atomAt
 atom-at-small R at x next {a} {end} e =
     ⊎-elim (λ h. small (λ j. role j) x (h .1) (ltb-true x 0x40 (h .0)))
     (λ h. ⊎-elim (λ g. small (λ j. fixed (of reading j)) (x - 0x40) (g .1) (omega (arith, ltb-true x 0x80 (g .0))))
     (λ h. ⊎-elim (λ g. small (λ j. fixed (of trust j)) (x - 0x80) (g .1) (omega (arith, ltb-true x 0xc0 (g .0))))
-    (λ h. subst (AtomFits 64) (sym (same-value (pick-parts (eqb x 0xff) _ _ _ (h .1) .1) .0)) tt)
+    (λ h. subst (AtomFits roleLimit) (sym (same-value (pick-parts (eqb x 0xff) _ _ _ (h .1) .1) .0)) tt)
     (either-parts (ltb x 0xc0) _ _ (h .1)))
     (either-parts (ltb x 0x80) _ _ (h .1)))
     (either-parts (ltb x 0x40) _ _ e)
   where
-    small : (f : ℕ → Atom) (j : ℕ) → cond (ltb j R) (got (f j) next) (bad programRange at) ≡ got a end → AtomFits 64 (f j) → AtomFits 64 a
-    small f j h g = subst (AtomFits 64) (sym (same-value (pick-parts (ltb j R) _ _ _ h .1) .0)) g
+    small : (f : ℕ → Atom) (j : ℕ) → cond (ltb j R) (got (f j) next) (bad programRange at) ≡ got a end → AtomFits roleLimit (f j) → AtomFits roleLimit a
+    small f j h g = subst (AtomFits roleLimit) (sym (same-value (pick-parts (ltb j R) _ _ _ h .1) .0)) g
 
-atom-small : (p : List ℕ) (R at : ℕ) {a : Atom} {end : ℕ} → readAtom p R at ≡ got a end → AtomFits 64 a
+atom-small : (p : List ℕ) (R at : ℕ) {a : Atom} {end : ℕ} → readAtom p R at ≡ got a end → AtomFits roleLimit a
 unfolding readAtom
 atom-small p R at e = let u = then-parts (readByte p at) _ e in atom-at-small R at (u .value) (u .mid) (u .after)
 
-query-small : (p : List ℕ) (R at : ℕ) {q : Query} {end : ℕ} → readQuery p R at ≡ got q end → QueryFits 64 q
+query-small : (p : List ℕ) (R at : ℕ) {q : Query} {end : ℕ} → readQuery p R at ≡ got q end → QueryFits roleLimit q
 unfolding readQuery
 query-small p R at e =
     let u = then-parts (readAtom p R at) _ e in
     let v = then-parts (readAtom p R (u .mid)) _ (u .after) in
-    subst (QueryFits 64) (sym (same-value (v .after) .0)) (atom-small p R at (u .first), atom-small p R (u .mid) (v .first))
+    subst (QueryFits roleLimit) (sym (same-value (v .after) .0)) (atom-small p R at (u .first), atom-small p R (u .mid) (v .first))
 
 -- what the code takes the two bytes of a query for is that query
 module _ (p : List ℕ) (at : ℕ) (o : AtomOf) (f : o ≡ atomOf (byte p at)) where

@@ -1,9 +1,10 @@
 -- A law for each return of verdict.rt: a program that was read stands for its tree from the first byte of its body on.
 use mathlib.Core.Path.{_≡_, refl, sym, ap, _∙_}
-use Prim.Native.Nat.{ℕ, _+_, _*_, _≤_}
+use Prim.Native.Nat.{ℕ, _+_, _*_}
 use native.Mathlib.Omega.{arith}
 use mathlib.Core.List.{List, []}
 use borrow.Author.Tests.{ne-eqb}
+use Rattle.model.specs.Limits.{statementDepth}
 use Rattle.model.specs.Number.{Verdict as Judgement, fine, refused}
 use Rattle.model.specs.Policy.{reading, trust, principals, roles, policyNumber, Accepted}
 use Rattle.model.specs.Syntax.{Stmt}
@@ -35,7 +36,7 @@ pub body-ready : (s t : List ℕ) → Accepted s → Knows s [] t → Ready s t
 body-ready s t ok k = record { is-accepted = ok; long = k .long }
 
 module _ (s p t : List ℕ) (n start : ℕ) (c : Context) (ok : Accepted s) (k : Knows s [] t) (e₁ : n ≡ variables p) (e₂ : start ≡ bodyAt n) (ec : c ≡ noContext) (o : Answer)
-    (f : CheckedAt s p t c 32 start o) where
+    (f : CheckedAt s p t c statementDepth start o) where
   body-is : (x : Stmt) (end : ℕ) → readProgram p (principals s) (roles s) ≡ got x end → reachedBy o ≡ checkedTo (flow s p outside [] (λ side. []) x) end
   unfolding CheckedAt
   body-is x end h =
