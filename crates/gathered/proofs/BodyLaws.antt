@@ -196,5 +196,3 @@ pub ruleset searchings = (searching-start, searching-done, searching-found, sear
 pub ruleset pairs = (pair-first, pair-second)
 
 pub ruleset inside = (body-here, body-inside)
-
-pub ruleset founds = (found-none, found-unknown, found-skip, found-assign, found-block, found-if, found-while, found-query, found-update, found-transaction)

@@ -98,5 +98,3 @@ module _ (p : List ℕ) (d at : ℕ) where
           let x : a ≡ exprLabels p (u .left) (u .mid) = f vars right (u .left) (u .mid) (rw m (u .left-read)) in
           let y : b ≡ exprLabels p (u .right) end = g vars right (u .right) end (rw x (u .right-read)) in
           rw (u .is, x, y)
-
-pub ruleset labels = (labels-none, labels-unknown, labels-constant, labels-variable, labels-binary)

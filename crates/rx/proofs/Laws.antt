@@ -41,9 +41,9 @@ module _ (s p : List ℕ) (a : Answer) (h : verdictOf a ≡ programVerdict s p) 
     unfolding locate
     refused-place = rw refused-verdict
 
-    pub refused-body : (n : ℕ) → body k 0 0 ≡ bodyOf (programVerdict s p) (transactionPart s p n)
+    pub refused-body : (n start size : ℕ) → start ≡ 0 → size ≡ 0 → body k start size ≡ bodyOf (programVerdict s p) (transactionPart s p n)
     unfolding bodyOf
-    refused-body n = rw (transaction-none s p n refused-verdict, refused-verdict)
+    refused-body n start size e f = rw (e, f, transaction-none s p n refused-verdict, refused-verdict)
 
     pub refused-part : (n : ℕ) (bytes : List ℕ) → bytes ≡ partBytes p (part 0 0) → bytes ≡ partBytes p (transactionPart s p n)
     refused-part n bytes f = f ∙ ap (partBytes p) (sym (transaction-none s p n refused-verdict))

@@ -1,6 +1,6 @@
 -- A statement calls a part with one less of depth, and a part calls statements with what it was given: twice the depth, and
 -- one more in a part, falls at every call. A block's loop keeps that the search of what is left comes to the search of all.
-use Rattle.gathered.proofs.BodyLaws.{Searching, founds, inside, pairs, searchings}
+use Rattle.gathered.proofs.BodyLaws.{Searching, found-none, found-unknown, found-skip, found-assign, found-block, found-if, found-while, found-query, found-update, found-transaction, inside, pairs, searchings}
 use borrow.Author.Needs.{needs}
 use Prim.Native.Nat.{ℕ, _<_, _+_, _*_}
 use borrow.Fn.Kinds.{In}
@@ -127,24 +127,21 @@ pub +find-body+find-in-block+find-in-pair+find-in-transaction-spec : {M : Type 1
     (find-body-at t)
     find-body.Post
     (λ c κs. search needs)
-    (λ c. search (needs, founds))
+    (λ c. search (needs, found-none))
     (λ c κs. search needs)
     (λ c. search needs)
     (λ c. search needs)
     (λ c κs. search needs)
-    (λ c. search (needs, founds))
+    (λ c. search (needs, found-unknown))
     (λ c. search needs)
-    (λ c κs. search needs)
-    (λ c. search needs)
-    (λ c κs. search needs)
-    (λ c. search needs)
-    (λ c κs. search needs)
-    (λ c κs. search needs)
     (λ c κs. search needs)
     (λ c. search needs)
     (λ c κs. search needs)
     (λ c. search needs)
     (λ c κs. search needs)
+    (λ c κs. search needs)
+    (λ c κs. search needs)
+    (λ c. search needs)
     (λ c κs. search needs)
     (λ c. search needs)
     (λ c κs. search needs)
@@ -158,14 +155,17 @@ pub +find-body+find-in-block+find-in-pair+find-in-transaction-spec : {M : Type 1
     (λ c. search needs)
     (λ c κs. search needs)
     (λ c κs. search needs)
-    (λ c. search (needs, founds))
-    (λ c. search (needs, founds))
-    (λ c. search (needs, founds))
-    (λ c. search (needs, founds))
-    (λ c. search (needs, founds))
-    (λ c. search (needs, founds))
-    (λ c. search (needs, founds))
-    (λ c. search (needs, founds)))
+    (λ c. search needs)
+    (λ c κs. search needs)
+    (λ c κs. search needs)
+    (λ c. search (needs, found-skip))
+    (λ c. search (needs, found-assign))
+    (λ c. search (needs, found-block))
+    (λ c. search (needs, found-if))
+    (λ c. search (needs, found-while))
+    (λ c. search (needs, found-query))
+    (λ c. search (needs, found-update))
+    (λ c. search (needs, found-transaction)))
     (λ t. find-in-block-lts.spec (
       byte-at-reads.Asked,
       byte-at-reads.Learnt,

@@ -1,6 +1,6 @@
 -- The walk calls itself only with one less of depth, which is the measure; a law for each kind of expression puts the labels
 -- of its parts together.
-use Rattle.gathered.proofs.LabelLaws.{labels}
+use Rattle.gathered.proofs.LabelLaws.{labels-none, labels-unknown, labels-constant, labels-variable, labels-binary}
 use borrow.Author.Needs.{needs}
 use Prim.Native.Nat.{ℕ, _<_}
 use borrow.Fn.Kinds.{In}
@@ -45,12 +45,12 @@ pub +expr-labels-spec : {M : Type 1} → statement M
     (expr-labels-at t)
     expr-labels.Post
     (λ c κs. search needs)
-    (λ c. search (needs, labels))
+    (λ c. search (needs, labels-none))
     (λ c κs. search needs)
     (λ c. search needs)
     (λ c. search needs)
     (λ c κs. search needs)
-    (λ c. search (needs, labels))
+    (λ c. search (needs, labels-unknown))
     (λ c κs. search needs)
     (λ c. search needs)
     (λ c κs. search needs)
@@ -64,6 +64,6 @@ pub +expr-labels-spec : {M : Type 1} → statement M
     (λ c κs. search needs)
     (λ c. search needs)
     (λ c κs. search needs)
-    (λ c. search (needs, labels))
-    (λ c. search (needs, labels))
-    (λ c. search (needs, labels))
+    (λ c. search (needs, labels-constant))
+    (λ c. search (needs, labels-variable))
+    (λ c. search labels-binary depth 1 fits 20000)
