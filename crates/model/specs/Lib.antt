@@ -12,6 +12,7 @@ pub mod Order
 pub mod Flow
 pub mod Atoms
 pub mod Value
+pub mod Memory
 pub mod Signed
 pub mod Run
 pub mod Spent

@@ -1,0 +1,147 @@
+-- A memory by its values: four bytes at the front move every later value by one place, so each law goes by the values from the first on.
+use Prim.Native.Nat.{ℕ, zero, suc, _+_, _*_, _/_, _%_, _^_, _<_, _≤_}
+use native.Mathlib.Omega.{arith}
+use mathlib.Core.Path.{_≡_, refl, sym, _∙_}
+use mathlib.Core.List.{List, [], _∷_}
+use lib.ListN.{length, getD, set, take}
+use lib.Seq.{length-take-le, take-length, take-set-lt, getD-take}
+use Rattle.model.specs.Bytes.{byte, word, put}
+use Rattle.model.specs.Meaning.{column}
+use Rattle.model.specs.Value.{valueAt, setValue}
+use Rattle.model.specs.Memory.{memoryOf}
+use Rattle.model.proofs.Bytes.{length-put}
+use Rattle.model.proofs.Least.{column-length, column-at}
+
+-- every number of a list is below a top: bytes below 256, values below 2^32
+abbrev pub AllBelow : ℕ → List ℕ → Type 0
+AllBelow top s = (i : ℕ) → i < length s → getD s i 0 < top
+
+pub memory-length : (vs : List ℕ) → length (memoryOf vs) ≡ 4 * length vs
+unfolding memoryOf
+memory-length [] = refl
+memory-length (v ∷ vs) = let e = memory-length vs in omega arith
+
+-- behind four bytes: what stood at a value's place, and what is put there, is one place on
+module _ (a b c d : ℕ) (s : List ℕ) (x : ℕ) where
+  byte-behind : (k : ℕ) → byte (a ∷ b ∷ c ∷ d ∷ s) (4 * suc x + k) ≡ byte s (4 * x + k)
+  byte-behind k = let e : 4 * suc x + k ≡ suc (suc (suc (suc (4 * x + k)))) = omega arith in rw e
+
+  word-behind : (n : ℕ) → word (a ∷ b ∷ c ∷ d ∷ s) (4 * suc x) n ≡ word s (4 * x) n
+  unfolding word
+  word-behind zero = refl
+  word-behind (suc n) = rw (word-behind n, byte-behind n)
+
+  put-behind : (n v : ℕ) → put (a ∷ b ∷ c ∷ d ∷ s) (4 * suc x) n v ≡ a ∷ b ∷ c ∷ d ∷ put s (4 * x) n v
+  unfolding put
+  put-behind zero v = refl
+  put-behind (suc n) v = let e : 4 * suc x + n ≡ suc (suc (suc (suc (4 * x + n)))) = omega arith in rw (put-behind n v, e)
+
+-- four bytes at the front: read, and put
+word-front : (a b c d : ℕ) (s : List ℕ) → word (a ∷ b ∷ c ∷ d ∷ s) 0 4 ≡ a + b * 256 + c * 65536 + d * 16777216
+unfolding word
+word-front a b c d s = omega arith
+
+put-front : (a b c d v : ℕ) (s : List ℕ) → v < 2 ^ 32
+    → put (a ∷ b ∷ c ∷ d ∷ s) 0 4 v ≡ v % 256 ∷ v / 256 % 256 ∷ v / 65536 % 256 ∷ v / 16777216 ∷ s
+unfolding put
+put-front a b c d v s l =
+    let first : v / 1 % 256 ≡ v % 256 = omega arith in
+    let last : v / 16777216 % 256 ≡ v / 16777216 = omega arith in
+    rw (first, last)
+
+-- the value at a place is the one that stands there
+pub memory-value : (vs : List ℕ) (x : ℕ) → x < length vs → valueAt (memoryOf vs) x ≡ getD vs x 0
+unfolding memoryOf valueAt
+memory-value [] x l = absurd (omega arith)
+memory-value (v ∷ vs) zero l = word-front _ _ _ _ (memoryOf vs) ∙ omega arith
+memory-value (v ∷ vs) (suc x) l = word-behind _ _ _ _ (memoryOf vs) x 4 ∙ memory-value vs x (omega arith)
+
+-- to set a value's bytes is to set the value
+pub memory-set : (vs : List ℕ) (x v : ℕ) → x < length vs → v < 2 ^ 32 → setValue (memoryOf vs) x v ≡ memoryOf (set vs x v)
+unfolding memoryOf setValue
+memory-set [] x v l h = absurd (omega arith)
+memory-set (u ∷ vs) zero v l h = put-front _ _ _ _ v (memoryOf vs) h
+memory-set (u ∷ vs) (suc x) v l h = put-behind _ _ _ _ (memoryOf vs) x 4 v ∙ rw (memory-set vs x v (omega arith) h)
+
+-- bytes that give the values are their bytes
+pub memory-is : (vs m : List ℕ) → length m ≡ 4 * length vs → AllBelow 256 m → ((x : ℕ) → x < length vs → getD vs x 0 ≡ valueAt m x) → memoryOf vs ≡ m
+unfolding memoryOf valueAt
+memory-is [] [] e low same = refl
+memory-is [] (a ∷ m) e low same = absurd (omega arith)
+memory-is (v ∷ vs) [] e low same = absurd (omega arith)
+memory-is (v ∷ vs) (a ∷ []) e low same = absurd (omega arith)
+memory-is (v ∷ vs) (a ∷ b ∷ []) e low same = absurd (omega arith)
+memory-is (v ∷ vs) (a ∷ b ∷ c ∷ []) e low same = absurd (omega arith)
+memory-is (v ∷ vs) (a ∷ b ∷ c ∷ d ∷ m) e low same =
+    let q : v ≡ a + b * 256 + c * 65536 + d * 16777216 = same 0 (omega arith) ∙ word-front a b c d m in
+    let la : a < 256 = low 0 (omega arith) in
+    let lb : b < 256 = low 1 (omega arith) in
+    let lc : c < 256 = low 2 (omega arith) in
+    let ea : v % 256 ≡ a = omega arith in
+    let qb : v / 256 ≡ b + c * 256 + d * 65536 = omega arith in
+    let qc : v / 65536 ≡ c + d * 256 = omega arith in
+    let eb : v / 256 % 256 ≡ b = rw qb (omega arith) in
+    let ec : v / 65536 % 256 ≡ c = rw qc (omega arith) in
+    let ed : v / 16777216 ≡ d = omega arith in
+    let rest : memoryOf vs ≡ m = memory-is vs m (omega arith) (λ i l. low (suc (suc (suc (suc i)))) (omega arith))
+    (λ x l. same (suc x) (omega arith) ∙ word-behind a b c d m x 4) in
+    rw (ea, eb, ec, ed, rest)
+
+-- a memory's own values give its bytes
+pub memory-words : (m : List ℕ) (n : ℕ) → length m ≡ 4 * n → AllBelow 256 m → memoryOf (column (valueAt m) n) ≡ m
+memory-words m n e low =
+    let k : length (column (valueAt m) n) ≡ n = column-length (valueAt m) n in
+    memory-is (column (valueAt m) n) m (omega arith) low (λ x l. column-at (valueAt m) n x (omega arith))
+
+-- the values that stand first in a longer list, as where a program has fewer variables than there is room for
+module _ (w : List ℕ) (n : ℕ) (fits : n ≤ length w) where
+  pub memory-first-length : length (memoryOf (take n w)) ≡ 4 * n
+  memory-first-length = rw (memory-length (take n w), length-take-le n w fits)
+
+  pub memory-first-value : (x : ℕ) → x < n → valueAt (memoryOf (take n w)) x ≡ getD w x 0
+  memory-first-value x l = memory-value (take n w) x (rw (length-take-le n w fits) l) ∙ getD-take n w x 0 l
+
+  pub memory-first-set : (x v : ℕ) → x < n → v < 2 ^ 32 → setValue (memoryOf (take n w)) x v ≡ memoryOf (take n (set w x v))
+  memory-first-set x v l h = rw (take-set-lt n w x v l) (memory-set (take n w) x v (rw (length-take-le n w fits) l) h)
+
+-- bytes after n values of w have been stored in them, from the first on
+unfoldable pub stored : List ℕ → List ℕ → ℕ → List ℕ
+stored w to zero = to
+stored w to (suc n) = put (stored w to n) (4 * n) 4 (getD w n 0)
+
+-- a loop's first state, and its next, with t the bytes before the round and u those after it
+pub stored-start : (w to : List ℕ) → to ≡ stored w to 0
+unfolding stored
+stored-start w to = refl
+
+pub stored-more : (w to t u : List ℕ) (i : ℕ) → t ≡ stored w to i → u ≡ put t (4 * i) 4 (getD w i 0) → u ≡ stored w to (i + 1)
+unfolding stored
+stored-more w to t u i e h = let k : i + 1 ≡ suc i = omega arith in h ∙ rw (e, k)
+
+pub stored-length : (w to : List ℕ) (n : ℕ) → length (stored w to n) ≡ length to
+unfolding stored
+stored-length w to zero = refl
+stored-length w to (suc n) = length-put (stored w to n) (4 * n) 4 (getD w n 0) ∙ stored-length w to n
+
+-- the first value takes the first four bytes, the others what is behind them
+stored-behind : (v a b c d : ℕ) (w to : List ℕ) (n : ℕ) → v < 2 ^ 32
+    → stored (v ∷ w) (a ∷ b ∷ c ∷ d ∷ to) (suc n) ≡ v % 256 ∷ v / 256 % 256 ∷ v / 65536 % 256 ∷ v / 16777216 ∷ stored w to n
+unfolding stored
+stored-behind v a b c d w to zero l = put-front a b c d v to l
+stored-behind v a b c d w to (suc n) l = rw (stored-behind v a b c d w to n l) (put-behind _ _ _ _ (stored w to n) n 4 (getD w n 0))
+
+-- n values stored in a room for n
+pub stored-first : (w to : List ℕ) (n : ℕ) → n ≤ length w → length to ≡ 4 * n → ((i : ℕ) → i < n → getD w i 0 < 2 ^ 32) → stored w to n ≡ memoryOf (take n w)
+unfolding stored memoryOf
+stored-first w [] zero l e low = refl
+stored-first w (a ∷ to) zero l e low = absurd (omega arith)
+stored-first [] to (suc n) l e low = absurd (omega arith)
+stored-first (v ∷ w) [] (suc n) l e low = absurd (omega arith)
+stored-first (v ∷ w) (a ∷ []) (suc n) l e low = absurd (omega arith)
+stored-first (v ∷ w) (a ∷ b ∷ []) (suc n) l e low = absurd (omega arith)
+stored-first (v ∷ w) (a ∷ b ∷ c ∷ []) (suc n) l e low = absurd (omega arith)
+stored-first (v ∷ w) (a ∷ b ∷ c ∷ d ∷ to) (suc n) l e low =
+    stored-behind v a b c d w to n (low 0 (omega arith)) ∙ rw (stored-first w to n (omega arith) (omega arith) (λ i k. low (suc i) (omega arith)))
+
+pub stored-all : (vs to : List ℕ) → length to ≡ 4 * length vs → AllBelow (2 ^ 32) vs → stored vs to (length vs) ≡ memoryOf vs
+stored-all vs to e low = stored-first vs to (length vs) (omega arith) e low ∙ rw (take-length vs)
