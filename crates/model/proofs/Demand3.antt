@@ -14,7 +14,8 @@ use Rattle.model.specs.Flow.{label}
 use Rattle.model.specs.Atoms.{atomSet}
 use Rattle.model.specs.Value.{valueAt}
 use Rattle.model.specs.Run.{Update, Outcome}
-use Rattle.model.specs.Claim.{openRow, openVariable, NoGain, OpenRowsAgree, OpenValuesAgree, SameOpenEnds, Demand3, rowOpenTo, variableOpenTo, NeverPutIn, Observer}
+use Rattle.model.specs.Calls.{Ended, endOf, runAnswer}
+use Rattle.model.specs.Claim.{openRow, openVariable, NoGain, OpenRowsAgree, OpenValuesAgree, SameOpenEnds, Claim, Demand3, rowOpenTo, variableOpenTo, NeverPutIn, ObserverClaim, Observer}
 use Rattle.model.proofs.FlowParts.{AcceptedProgram}
 use Rattle.model.proofs.Openness.{Setting, isOpen, Near, good-base, open-fixed, open-same}
 use Rattle.model.proofs.InStep.{in-step}
@@ -35,9 +36,9 @@ finished {s} {p} {m} {f} (finishes b e) h = record { begins = b; body-ran = rw e
 finished (spends b e) h = absurd (omega arith)
 
 -- near policies, and memories that agree on what is open, make ends as claimed
-claimed : {S : Setting} {one two : Outcome} → Near S (one .policy) (two .policy)
-    → ((x : ℕ) → x < variables (S .program) → isOpen S (one .policy) (labelOf S x) ≡ true → valueAt (one .memory) x ≡ valueAt (two .memory) x)
-    → SameOpenEnds (S .side) (S .group) (S .program) one two
+claimed : {S : Setting} {s m t n : List ℕ} → Near S s t
+    → ((x : ℕ) → x < variables (S .program) → isOpen S s (labelOf S x) ≡ true → valueAt m x ≡ valueAt n x)
+    → SameOpenEnds (S .side) (S .group) (S .program) s m t n
 unfolding isOpen openRow openVariable atomSet fixedSet
 claimed {S} k f = record {
   rows = λ r l o. k .rows r (rw (k .good1 .same-base .same-roles) l) (sym (open-fixed (k .good1) (of (S .side) r)) ∙ o);
@@ -52,7 +53,8 @@ setting side group {p} {a} h = record { side = side; group = group; program = p;
 -- two finished runs
 both-finished : {side : Side} {group : ℕ} {p a b m n : List ℕ} {i j : ℕ} {one two : Outcome}
     → SameFixed a b → OpenRowsAgree side group a b → OpenValuesAgree side group p a m n
-    → NoGain group (one .updates) → Finished a p m i one → Finished b p n j two → SameOpenEnds side group p one two
+    → NoGain group (one .updates) → Finished a p m i one → Finished b p n j two
+    → SameOpenEnds side group p (one .policy) (one .memory) (two .policy) (two .memory)
 unfolding setting isOpen openRow openVariable atomSet fixedSet
 both-finished {side} {group} {p} {a} {b} {m} {n} {one} {two} same rows values f x y =
     let S = setting side group (x .begins .program) in
@@ -64,7 +66,12 @@ both-finished {side} {group} {p} {a} {b} {m} {n} {one} {two} same rows values f 
     ⊎-elim absurd (λ k. claimed (k .near) (k .values)) (in-step S (x .begins .program .placed) (x .body-ran) run-two refl refl start f)
 
 pub demand-3 : Demand3
-demand-3 side group p a b m n f g same rows values ra rb na nb = both-finished same rows values na (finished (ran a p m f) ra) (finished (ran b p n g) rb)
+unfolding Claim endOf
+demand-3 p a b m n f g side group same rows values ra rb na nb = both-finished same rows values na (finished (ran a p m f) ra) (finished (ran b p n g) rb)
+
+-- demand 3 of calls: two that give what the definition does are as claimed
+pub two-calls : (p a b m n : List ℕ) (f g : ℕ) (one two : Ended) → one ≡ runAnswer a p m f → two ≡ runAnswer b p n g → Claim p a b m n f g one two
+two-calls p a b m n f g one two e k = rw (e, k) (demand-3 p a b m n f g)
 
 -- one observer is the group of that principal: what is open to them, and what puts them into a meaning, is the group's
 row-open : (side : Side) (o : ℕ) (s : List ℕ) (r : ℕ) → openRow side (2 ^ o) s r ≡ rowOpenTo side o s r
@@ -81,9 +88,11 @@ no-gain o us h u i k =
     let e : k .principal ≡ o = power-is o (k .principal) (k .in-group) in
     h u i (k .role) record { not-before = rw e at (k .not-before); now-in = rw e at (k .now-in) }
 
-pub observer : Observer
-observer side o p a b m n f g same rows values ra rb na nb =
-    let k = demand-3 side (2 ^ o) p a b m n f g same
+-- what is claimed of two calls for every group holds for every observer
+pub claim-observer : (p a b m n : List ℕ) (f g : ℕ) (one two : Ended) → Claim p a b m n f g one two → ObserverClaim p a b m n f g one two
+unfolding Claim ObserverClaim
+claim-observer p a b m n f g one two claim side o same rows values ra rb na nb =
+    let k = claim side (2 ^ o) same
     (λ r l h. rows r l (sym (row-open side o a r) ∙ h))
     (λ x l h. values x l (sym (variable-open side o p a x) ∙ h))
     ra rb (no-gain o _ na) (no-gain o _ nb) in
@@ -92,3 +101,6 @@ observer side o p a b m n f g same rows values ra rb na nb =
       variables-open = λ x l. sym (variable-open side o p _ x) ∙ k .variables-open x l ∙ variable-open side o p _ x;
       values = λ x l h. k .values x l (variable-open side o p _ x ∙ h);
     }
+
+pub observer : Observer
+observer p a b m n f g = claim-observer p a b m n f g _ _ (demand-3 p a b m n f g)

@@ -31,8 +31,15 @@ unfoldable pub partBytes : List ℕ → Part → List ℕ
 partBytes p (part start size) = take size (drop start p)
 
 -- running: the number, the units, and the bytes of policy and memory at the end
-pub data Ended : Type 0 where
-  ended : (number units : ℕ) → (policy memory : List ℕ) → Ended
+pub record Ended : Type 0 where
+  pub number : ℕ
+  pub units : ℕ
+  pub policy : List ℕ
+  pub memory : List ℕ
+
+-- the same in a row, as a contract writes it
+abbrev pub ended : (number units : ℕ) → (policy memory : List ℕ) → Ended
+ended k u s m = record { number = k; units = u; policy = s; memory = m }
 
 unfoldable pub endOf : Outcome → Ended
 endOf o = ended (o .number) (o .units) (o .policy) (o .memory)

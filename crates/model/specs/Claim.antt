@@ -15,7 +15,8 @@ use Rattle.model.specs.Program.{variables}
 use Rattle.model.specs.Flow.{label}
 use Rattle.model.specs.Atoms.{atomSet}
 use Rattle.model.specs.Value.{valueAt}
-use Rattle.model.specs.Run.{Update, Outcome, run}
+use Rattle.model.specs.Run.{Update, run}
+use Rattle.model.specs.Calls.{Ended, runAnswer}
 
 -- a set is open to a group when one of the group is in it
 abbrev pub sees : ℕ → ℕ → Bool
@@ -48,21 +49,28 @@ OpenRowsAgree side group a b = (r : ℕ) → r < roles a → openRow side group 
 abbrev pub OpenValuesAgree : Side → ℕ → List ℕ → List ℕ → List ℕ → List ℕ → Type 0
 OpenValuesAgree side group p s m n = (x : ℕ) → x < variables p → openVariable side group p s x ≡ true → valueAt m x ≡ valueAt n x
 
--- what holds of the ends of two runs: open rows agree, the same variables are open, and each of these has the same value
-pub record SameOpenEnds (side : Side) (group : ℕ) (p : List ℕ) (one two : Outcome) : Type 0 where
-  pub rows : OpenRowsAgree side group (one .policy) (two .policy)
-  pub variables-open : (x : ℕ) → x < variables p → openVariable side group p (one .policy) x ≡ openVariable side group p (two .policy) x
-  pub values : OpenValuesAgree side group p (one .policy) (one .memory) (two .memory)
+-- what holds of the ends of two runs, policy s and memory m of the one, t and n of the other: open rows agree, the same
+-- variables are open, and each of these has the same value
+pub record SameOpenEnds (side : Side) (group : ℕ) (p s m t n : List ℕ) : Type 0 where
+  pub rows : OpenRowsAgree side group s t
+  pub variables-open : (x : ℕ) → x < variables p → openVariable side group p s x ≡ openVariable side group p t x
+  pub values : OpenValuesAgree side group p s m n
 
--- demand 3, for a side and a group: two finished runs of one program, at any fuels, without gains, from policies with
--- the same fixed part and memories that agree on all that is open, end alike on all that is open
-abbrev pub Demand3 : Type 0
-Demand3 =
-    (side : Side) (group : ℕ) (p a b m n : List ℕ) (f g : ℕ)
+-- demand 3 of two calls that run the program p, the one with policy a, memory m and fuel f, the other with b, n and g, and of
+-- what they gave. On either side, for every group: where the policies have the same fixed part and agree on every open row,
+-- the memories agree on every open variable, both calls returned 0 (so program and policies are accepted), and no update that
+-- the run rules carry out in either gains, the ends are the same on all that is open
+unfoldable pub Claim : (p a b m n : List ℕ) (f g : ℕ) (one two : Ended) → Type 0
+Claim p a b m n f g one two =
+    (side : Side) (group : ℕ)
     → SameFixed a b → OpenRowsAgree side group a b → OpenValuesAgree side group p a m n
-    → run a p m f .number ≡ accepted → run b p n g .number ≡ accepted
+    → one .number ≡ accepted → two .number ≡ accepted
     → NoGain group (run a p m f .updates) → NoGain group (run b p n g .updates)
-    → SameOpenEnds side group p (run a p m f) (run b p n g)
+    → SameOpenEnds side group p (one .policy) (one .memory) (two .policy) (two .memory)
+
+-- demand 3 of the definition: what it gives for any two runs is as claimed
+abbrev pub Demand3 : Type 0
+Demand3 = (p a b m n : List ℕ) (f g : ℕ) → Claim p a b m n f g (runAnswer a p m f) (runAnswer b p n g)
 
 -- The same for the observer of document 01, who is any one principal, in its own words.
 
@@ -75,6 +83,14 @@ rowOpenTo trust observer s r = has (trusters s r) observer
 unfoldable pub variableOpenTo : Side → ℕ → List ℕ → List ℕ → ℕ → Bool
 variableOpenTo side observer p s x = has (atomSet s (label p side x)) observer
 
+-- policies that agree on every role whose row is open to the observer
+abbrev pub RowsAgreeTo : Side → ℕ → List ℕ → List ℕ → Type 0
+RowsAgreeTo side observer a b = (r : ℕ) → r < roles a → rowOpenTo side observer a r ≡ true → Agree a b r
+
+-- memories that agree on every variable that is open to them under a policy
+abbrev pub ValuesAgreeTo : Side → ℕ → List ℕ → List ℕ → List ℕ → List ℕ → Type 0
+ValuesAgreeTo side observer p s m n = (x : ℕ) → x < variables p → variableOpenTo side observer p s x ≡ true → valueAt m x ≡ valueAt n x
+
 -- an update puts a principal into a role's meaning when they stand in it after the last mutation and did not before the first
 pub record PutsIn (principal : ℕ) (u : Update) (role : ℕ) : Type 0 where
   pub not-before : has (meaning (u .before) role) principal ≡ false
@@ -85,20 +101,22 @@ NeverPutIn observer us = (u : Update) → List·Memᴰ u us → (r : ℕ) → Pu
 
 -- what holds of the ends of two runs: the policies agree on every role whose row is open to the observer, the same variables
 -- are open to them, and each of these has the same value
-pub record SameToObserver (side : Side) (observer : ℕ) (p : List ℕ) (one two : Outcome) : Type 0 where
-  pub rows : (r : ℕ) → r < roles (one .policy) → rowOpenTo side observer (one .policy) r ≡ true → Agree (one .policy) (two .policy) r
-  pub variables-open : (x : ℕ) → x < variables p → variableOpenTo side observer p (one .policy) x ≡ variableOpenTo side observer p (two .policy) x
-  pub values : (x : ℕ) → x < variables p → variableOpenTo side observer p (one .policy) x ≡ true → valueAt (one .memory) x ≡ valueAt (two .memory) x
+pub record SameToObserver (side : Side) (observer : ℕ) (p s m t n : List ℕ) : Type 0 where
+  pub rows : RowsAgreeTo side observer s t
+  pub variables-open : (x : ℕ) → x < variables p → variableOpenTo side observer p s x ≡ variableOpenTo side observer p t x
+  pub values : ValuesAgreeTo side observer p s m n
 
--- demand 3 for one observer: two finished runs of one program, at any fuels, none of whose updates puts the observer into a
--- role's meaning, from policies with the same fixed part that agree on every role whose row is open to the observer and
--- memories that agree on every variable open to them, end the same to the observer
-abbrev pub Observer : Type 0
-Observer =
-    (side : Side) (observer : ℕ) (p a b m n : List ℕ) (f g : ℕ)
-    → SameFixed a b
-    → ((r : ℕ) → r < roles a → rowOpenTo side observer a r ≡ true → Agree a b r)
-    → ((x : ℕ) → x < variables p → variableOpenTo side observer p a x ≡ true → valueAt m x ≡ valueAt n x)
-    → run a p m f .number ≡ accepted → run b p n g .number ≡ accepted
+-- demand 3 of two calls, as above, for every observer: two finished runs of one program, at any fuels, none of whose updates
+-- puts the observer into a role's meaning, from policies with the same fixed part that agree on every role whose row is open
+-- to the observer and memories that agree on every variable open to them, end the same to the observer
+unfoldable pub ObserverClaim : (p a b m n : List ℕ) (f g : ℕ) (one two : Ended) → Type 0
+ObserverClaim p a b m n f g one two =
+    (side : Side) (observer : ℕ)
+    → SameFixed a b → RowsAgreeTo side observer a b → ValuesAgreeTo side observer p a m n
+    → one .number ≡ accepted → two .number ≡ accepted
     → NeverPutIn observer (run a p m f .updates) → NeverPutIn observer (run b p n g .updates)
-    → SameToObserver side observer p (run a p m f) (run b p n g)
+    → SameToObserver side observer p (one .policy) (one .memory) (two .policy) (two .memory)
+
+-- and of the definition
+abbrev pub Observer : Type 0
+Observer = (p a b m n : List ℕ) (f g : ℕ) → ObserverClaim p a b m n f g (runAnswer a p m f) (runAnswer b p n g)

@@ -16,7 +16,7 @@ pub mod Memory
 pub mod Signed
 pub mod Run
 pub mod Spent
-pub mod Claim
 pub mod Calls
+pub mod Claim
 pub mod Machine
 pub mod Linked
