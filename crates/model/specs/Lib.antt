@@ -20,3 +20,4 @@ pub mod Calls
 pub mod Claim
 pub mod Machine
 pub mod Linked
+pub mod Compile
