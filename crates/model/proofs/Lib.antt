@@ -41,5 +41,4 @@ pub mod InStep
 pub mod Demand3
 pub mod Examples
 pub mod Machine
-pub mod Linked
-pub mod Linking
+pub mod Compile

@@ -19,5 +19,4 @@ pub mod Spent
 pub mod Calls
 pub mod Claim
 pub mod Machine
-pub mod Linked
 pub mod Compile
