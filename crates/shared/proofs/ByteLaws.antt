@@ -1,16 +1,16 @@
 -- A law for each return of bytes.rt: past the end stands 0, a word is the sum of its bytes, and a comparison with a mark goes by what is left of both.
 use mathlib.Core.Path.{_≡_, refl, sym, _∙_}
-use Prim.Native.Nat.{ℕ, suc, _+_, _*_, _<_, _≤_}
+use Prim.Native.Nat.{ℕ, suc, _+_, _*_, _/_, _%_, _<_, _≤_}
 use mathlib.Core.List.{List, [], _∷_}
 use mathlib.Core.Bool.{Bool, true, false, cond}
 use native.Mathlib.Omega.{arith}
-use native.Mathlib.Nat.{add-zero, add-assoc}
+use native.Mathlib.Nat.{add-zero, add-assoc, div-one, div-div-eq-div-mul}
 use native.Mathlib.Numerals.{add-one}
 use lib.Dec.{eqb, eqb·zero-suc, eqb·suc-suc}
-use lib.ListN.{length, getD, List·getD-eq-default, drop, drop-of-length-le}
+use lib.ListN.{length, getD, set, List·getD-eq-default, drop, drop-of-length-le}
 use lib.Seq.{drop-cons}
 use borrow.Author.Tests.{eq-eqb, ne-eqb}
-use Rattle.model.specs.Bytes.{byte, word, startsWith}
+use Rattle.model.specs.Bytes.{byte, word, put, startsWith}
 use Rattle.shared.specs.Marks.{matching}
 
 pub byte-past : (s : List ℕ) (at : ℕ) → length s ≤ at → 0 ≡ byte s at
@@ -28,6 +28,30 @@ module _ (s : List ℕ) (at : ℕ) where
   word-of-8 low high p q = rw (p, q) (simp (add-assoc, add-zero) (omega arith))
 
 pub ruleset words = (word-of-4, word-of-8)
+
+-- the lowest byte is that of what is left below a multiple of 256
+low-byte : (low v k : ℕ) → v ≡ 256 * k + low → low % 256 ≡ v % 256
+low-byte low v k e = omega arith
+
+-- four bytes written one after the other; eight are four and four
+module _ (s : List ℕ) (at v : ℕ) where
+  pub put-of-4 : (a b c d : ℕ) → a ≡ v % 256 → b ≡ v / 256 % 256 → c ≡ v / 65536 % 256 → d ≡ v / 16777216 % 256
+      → set (set (set (set s at a) (at + 1) b) (at + 2) c) (at + 3) d ≡ put s at 4 v
+  unfolding put
+  put-of-4 a b c d p q u w = rw (p, q, u, w, add-zero at, div-one v)
+
+  pub put-of-8 : (t r : List ℕ) → t ≡ put s at 4 (v % 4294967296) → r ≡ put t (at + 4) 4 (v / 4294967296) → r ≡ put s at 8 v
+  unfolding put
+  put-of-8 t r p q =
+      let low = v % 4294967296 in
+      let high = v / 4294967296 in
+      let a = low-byte low v (16777216 * high) (omega arith) in
+      let b = low-byte (low / 256) (v / 256) (65536 * high) (omega arith) in
+      let c = low-byte (low / 65536) (v / 65536) (256 * high) (omega arith) in
+      let d = low-byte (low / 16777216) (v / 16777216) high (omega arith) in
+      rw (q, p) (simp (add-assoc, add-zero, div-one, div-div-eq-div-mul, a, b, c, d))
+
+pub ruleset puts = (put-of-4, put-of-8)
 
 -- what of a mark is still to be compared from position i on
 module _ (s m : List ℕ) (r i : ℕ) (e : i + matching (drop i s) (drop i m) ≡ r) where

@@ -1,16 +1,16 @@
 -- A law for each return of sets.rt: past bit 63 a word has no member, and every word is below 2 ^ 64.
 use mathlib.Core.Path.{_≡_, refl, sym, _∙_}
 use Prim.Native.Nat.{ℕ, zero, suc, _-_, _*_, _/_, _%_, _^_, _<_, _≤_}
-use mathlib.Core.Bool.{true, false, true≢false}
+use mathlib.Core.Bool.{Bool, true, false, true≢false}
 use native.Mathlib.Omega.{arith}
 use native.Mathlib.Nat.{one-mul, lt-of-lt-of-le, div-eq-of-lt, div-one, pow-suc}
 use native.Mathlib.Decide.{decLt}
 use lib.Dec.{ltb}
 use lib.Pow.{shl-exact, pow-mono}
-use lib.Bits.{bitAnd, and-step, and-self}
+use lib.Bits.{bitAnd, bitOr, and-step, and-self}
 use lib.Count.{trailingZeros, under}
 use borrow.Author.Tests.{lt-ltb, le-ltb, eq-eqb}
-use Rattle.model.specs.Sets.{has, without}
+use Rattle.model.specs.Sets.{has, with, without}
 use Rattle.model.proofs.Sets.{half-has, has-below}
 use Rattle.shared.specs.Words.{single}
 
@@ -84,6 +84,23 @@ held-power a i h = go (decLt a (2 ^ i))
     go : Dec (a < 2 ^ i) → 2 ^ i ≤ a
     go (yes l) = absurd (let e : false ≡ true = (rw (div-eq-of-lt l) at h) in true≢false (sym e))
     go (no k) = omega arith
+
+-- one number more or less in a set
+module _ (a i : ℕ) (l : i < 64) where
+  pub with-one : bitOr a (1 * 2 ^ i % 2 ^ 64) ≡ with a i
+  with-one = rw (shifted i l)
+
+  module _ (b : Bool) (e : b ≡ has a i) where
+    pub one-below : b ≡ true → 1 * 2 ^ i % 2 ^ 64 ≤ a
+    one-below h = rw (shifted i l) (held-power a i (sym e ∙ h))
+
+    pub without-one : b ≡ true → a - 1 * 2 ^ i % 2 ^ 64 ≡ without a i
+    without-one h = let k : has a i ≡ true = sym e ∙ h in rw (shifted i l) (simp k)
+
+    pub without-none : b ≡ false → a ≡ without a i
+    without-none h = let k : has a i ≡ false = sym e ∙ h in simp k
+
+pub ruleset ones = (with-one, one-below, without-one, without-none)
 
 pub ruleset singles = (single-low, single-high)
 

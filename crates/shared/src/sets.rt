@@ -4,7 +4,7 @@ ghost use mathlib.Core.Bool.{true, false};
 ghost use Prim.Native.Nat.{_^_, _<_};
 ghost use lib.Count.{trailingZeros};
 ghost use lib.Dec.{ltb};
-ghost use Rattle.model.specs.Sets.{has, within, without};
+ghost use Rattle.model.specs.Sets.{has, within, with, without};
 ghost use Rattle.shared.specs.Words.{single};
 
 // Whether i is in the set.
@@ -42,6 +42,25 @@ pub fn single(i: u64) -> u64
         return 1 << i;
     }
     0
+}
+
+// The set with i.
+pub fn with(a: u64, i: u64) -> u64
+    requires { ⌜ i < 64 ⌝ }
+    ensures { λ r. ⌜ r ≡ with a i ⌝ }
+{
+    a | 1 << i
+}
+
+// The set without i.
+pub fn without(a: u64, i: u64) -> u64
+    requires { ⌜ i < 64 ⌝ }
+    ensures { λ r. ⌜ r ≡ without a i ⌝ }
+{
+    if contains(a, i) {
+        return a - (1 << i);
+    }
+    a
 }
 
 // The lowest number in a set that has one.
