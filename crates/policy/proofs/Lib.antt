@@ -2,4 +2,4 @@ mod RowLaws
 mod CheckLaws
 mod TakesLaws
 mod PairLaws
-mod MeaningLaws
+pub mod MeaningLaws

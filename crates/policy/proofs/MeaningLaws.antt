@@ -159,6 +159,19 @@ pub rounds-meanings : (s t m w : List ℕ) → t ≡ column (takes s) (roles s) 
 unfolding meanings
 rounds-meanings s t m w p q e = let n : length t ≡ roles s = ap length p ∙ column-length (takes s) (roles s) in e ∙ rw (n, p, q)
 
+-- the words that the roles need, of as many as there may be
+module _ (s w : List ℕ) (n : ℕ) (ok : Accepted s) (e : n ≡ roles s) (l : length w ≡ roleLimit) where
+  pub roles-inside : n ≤ length w
+  roles-inside = omega (arith, accepted-facts s ok .roles-fit)
+
+  pub roles-count : n ≡ length (take n w)
+  roles-count = sym (length-take-le n w roles-inside)
+
+  pub roles-part : length (take n w) ≡ roles s
+  roles-part = sym roles-count ∙ e
+
+pub ruleset all-laws = (roles-inside, roles-count, roles-part)
+
 pub ruleset sets-laws = (takes-fitting, columns-same, rounds-meanings)
 
 -- one role's set among those of all
@@ -166,12 +179,14 @@ pub set-is : (s w : List ℕ) (r : ℕ) → w ≡ meanings s → getD w r 0 ≡ 
 unfolding meaning
 set-is s w r e = ap (λ (l : List ℕ). getD l r 0) e
 
-pub set-there : (s w : List ℕ) (r : ℕ) → w ≡ meanings s → r < roles s → r < length w
+pub meanings-length : (s : List ℕ) → length (meanings s) ≡ roles s
 unfolding meanings
-set-there s w r e l =
+meanings-length s =
     let c = column-length (takes s) (roles s) in
-    let n = rounds-length (column (takes s) (roles s)) (column (members s) (roles s)) (column-length (members s) (roles s) ∙ sym c) (roles s) in
-    omega (arith, ap length e)
+    rounds-length (column (takes s) (roles s)) (column (members s) (roles s)) (column-length (members s) (roles s) ∙ sym c) (roles s) ∙ c
+
+pub set-there : (s w : List ℕ) (r : ℕ) → w ≡ meanings s → r < roles s → r < length w
+set-there s w r e l = omega (arith, ap length e, meanings-length s)
 
 -- the part that a policy's roles need, of words for as many as there may be
 pub part-count : (w : List ℕ) (n : ℕ) → length w ≡ roleLimit → n ≤ roleLimit → n ≡ length (take n w)

@@ -9,8 +9,9 @@ use lib.ListN.{length}
 use borrow.Author.Tests.{eq-eqb, ne-eqb, not-true, not-false}
 use Rattle.model.specs.Limits.{headBytes, fieldBytes, principalLimit}
 use Rattle.model.specs.Sets.{has}
-use Rattle.model.specs.Bytes.{byte, word, startsWith}
+use Rattle.model.specs.Bytes.{byte, word, put, startsWith}
 use Rattle.model.specs.Policy.{policyHead, hasMark, principals, roles, rowBytes, rowAt, policyBytes, HasRow, owner, name, viewers, trusters, members, takes, mayTake, mayHold, AcceptedHead}
+use Rattle.model.specs.Mutation.{putMembers, putTakes}
 use Rattle.model.proofs.Accepted.{head-zero}
 use Rattle.model.proofs.Rows.{row-inside, row-there, head-apart}
 
@@ -77,6 +78,18 @@ module _ (s : List ℕ) (i at : ℕ) (e : at ≡ rowAt s i) where
     pub takes-at : r ≡ word s (at + 14) 8 → r ≡ takes s i
     unfolding takes
     takes-at h = rw e at h
+
+  -- and what is written there
+  module _ (v : ℕ) (t : List ℕ) where
+    pub members-put : t ≡ put s (at + 10) 4 v → t ≡ putMembers s i v
+    unfolding putMembers
+    members-put h = rw e at h
+
+    pub takes-put : t ≡ put s (at + 14) 8 v → t ≡ putTakes s i v
+    unfolding putTakes
+    takes-put h = rw e at h
+
+pub ruleset writes = (members-put, takes-put)
 
 pub ruleset fields = (owner-at, name-at, viewers-at, trusters-at, members-at, takes-at)
 

@@ -104,15 +104,24 @@ fn least_sets(policy: &[u8], words: &mut [u64], sets: &mut [u32])
     all_rounds(words, sets);
 }
 
+// The meanings of all roles, a word for each.
+pub fn all_meanings(policy: &[u8], sets: &mut [u32])
+    requires { ⌜ (length (now sets) ≡ roles (now policy)) × Accepted (now policy) ⌝ }
+    ensures { λ _. ⌜ now (sets .exit) ≡ meanings (now (policy .entry)) ⌝ }
+{
+    let n = sets.len();
+    let mut words = [0u64; limit::ROLES as usize];
+    least_sets(policy, &mut words[..n], sets);
+}
+
 // The least set of a role that there is.
 fn least_set(policy: &[u8], n: usize, role: usize) -> u32
     requires { ⌜ (n ≡ roles (now policy)) × Accepted (now policy) × (role < roles (now policy)) × (n ≤ roleLimit) ⌝ }
     ensures { λ r. ⌜ r ≡ meaning (now (policy .entry)) role ⌝ }
 {
-    let mut words = [0u64; limit::ROLES as usize];
     let mut sets = [0u32; limit::ROLES as usize];
     let part = &mut sets[..n];
-    least_sets(policy, &mut words[..n], part);
+    all_meanings(policy, part);
     part[role]
 }
 

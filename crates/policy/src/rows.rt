@@ -5,6 +5,7 @@ ghost use Prim.Native.Nat.{_+_, _≤_};
 ghost use lib.ListN.{length};
 ghost use Rattle.model.specs.Limits.{fieldBytes};
 ghost use Rattle.model.specs.Policy.{hasMark, principals, roles, rowAt, policyBytes, HasRow, owner, name, viewers, trusters, members, takes, mayTake, mayHold};
+ghost use Rattle.model.specs.Mutation.{putMembers, putTakes};
 use shared::bytes;
 use shared::limit;
 use shared::sets;
@@ -86,6 +87,24 @@ pub fn takes_of(policy: &[u8], i: usize) -> u64
     ensures { λ r. ⌜ r ≡ takes (now (policy .entry)) i ⌝ }
 {
     bytes::word64(policy, row_at(policy, i) + 14)
+}
+
+// Writes the members of row i.
+pub fn set_members(policy: &mut [u8], i: usize, v: u32)
+    requires { ⌜ HasRow (now policy) i ⌝ }
+    ensures { λ _. ⌜ now (policy .exit) ≡ putMembers (now (policy .entry)) i v ⌝ }
+{
+    let at = row_at(policy, i) + 10;
+    bytes::put32(policy, at, v);
+}
+
+// Writes what row i takes in.
+pub fn set_takes(policy: &mut [u8], i: usize, v: u64)
+    requires { ⌜ HasRow (now policy) i ⌝ }
+    ensures { λ _. ⌜ now (policy .exit) ≡ putTakes (now (policy .entry)) i v ⌝ }
+{
+    let at = row_at(policy, i) + 14;
+    bytes::put64(policy, at, v);
 }
 
 // Whether row i may take in role j: both have the same viewers and trusters.
