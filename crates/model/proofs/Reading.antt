@@ -16,7 +16,7 @@ use Rattle.model.specs.Number.{programLength, programRange, programDepth
 use Rattle.model.specs.Bytes.{byte}
 use Rattle.model.specs.Policy.{reading, trust}
 use Rattle.model.specs.Mutation.{Kind, addMember, deleteMember, addTaken, deleteTaken, Mutation}
-use Rattle.model.specs.Syntax.{of, Atom, role, fixed, Operator, sum, difference, product, quotient, less, equal, Expr, Stmt}
+use Rattle.model.specs.Syntax.{of, Atom, role, fixed, Query, Operator, sum, difference, product, quotient, less, equal, Expr, Stmt}
 use Rattle.model.specs.Program.{Read, got, bad, andThen, readByte, readBelow, readMark, readMany, programHead, atomAt, readAtom, readLabel, readQuery, mutationAt, readMutation, binaryAt, exprAt, readExpr, blockOf, assignAt, blockAt, ifAt, whileAt, queryAt, updateAt, transactionAt, stmtAt, readStmt, variables, readBody, readProgram}
 use Rattle.model.specs.Flow.{part, bodies}
 use Rattle.model.proofs.Bodies.{BodiesWithin, bodies-later, two-within, none-within, block-within}
@@ -134,6 +134,9 @@ module _ (p : List ℕ) (R : ℕ) where
   query-gives : (at : ℕ) → GivesFrom p (λ end q. QueryFits R q) at (readQuery p R at)
   unfolding readQuery
   query-gives at = then-gives (atom-gives at) (λ a mid h. then-gives (atom-gives mid) (λ b end k. gives (omega arith, k .1, (h .2, k .2))))
+
+  pub query-fits : (at : ℕ) {q : Query} {end : ℕ} → readQuery p R at ≡ got q end → QueryFits R q
+  query-fits at h = gives-got (rw h at (query-gives at)) .2
 
 module _ (p : List ℕ) (P R : ℕ) where
   abbrev GivesMutation : ℕ → Read Mutation → Type 0
