@@ -12,7 +12,7 @@ use Rattle.model.specs.Limits.{roleLimit}
 use Rattle.model.specs.Number.{programRange}
 use Rattle.model.specs.Bytes.{byte}
 use Rattle.model.specs.Policy.{reading, trust, Accepted, principals, roles, HasRow, mayHold, mayTake}
-use Rattle.model.specs.Mutation.{Kind, addMember, deleteMember, addTaken, deleteTaken, Mutation, allowed}
+use Rattle.model.specs.Mutation.{Mutation, allowed}
 use Rattle.model.specs.Syntax.{of, Atom, role, fixed, atomByte, Query}
 use Rattle.model.specs.Program.{got, bad, readByte, readBelow, atomAt, readAtom, readQuery, mutationAt, readMutation}
 use Rattle.model.specs.Flow.{listedIn, allAllowed}
@@ -28,11 +28,11 @@ use Rattle.program.specs.declared.codes.Kind.the-variants.{AddMember, DeleteMem
 use Rattle.program.specs.declared.codes.KindOf.{KindOf}
 use Rattle.program.specs.declared.codes.KindOf.the-variants as kind
 use Rattle.program.specs.Codes.{atomOf, modelAtom, kindOf, kindByte, modelKind}
-use Rattle.program.proofs.CodeLaws.{atom-is, atom-some, kind-byte, kind-none}
+use Rattle.program.proofs.CodeLaws.{atom-is, atom-some, kind-byte}
 use Rattle.order.specs.Table.{namedRole, queryOf, queryRoles, listRoles, DecidesQuery}
 use Rattle.gathered.specs.Positions.{ahead}
-use Rattle.gathered.proofs.PositionLaws.{ahead-is}
-use Rattle.model.proofs.Standing.{then-parts, pick-parts, either-parts, same-value, byte-parts, below-parts, many-none, many-more, query-parts, kindCode, mutation-parts}
+use Rattle.gathered.proofs.PositionLaws.{ahead-is, mutation-known, mutation-kind}
+use Rattle.model.proofs.Standing.{then-parts, pick-parts, either-parts, same-value, byte-parts, below-parts, many-none, many-more, query-parts, mutation-parts}
 use Rattle.flow.specs.declared.lists.QueryOf.{QueryOf}
 use Rattle.flow.specs.declared.lists.QueryOf.the-variants as query
 use Rattle.flow.specs.Lists.{SameAt, ListedAt, QueryNames, QueryAt, KnownAt, QueryRolesAt, ListRolesAt, HoldsRight, TakesRight, OneAllowedAt, AllowedAt}
@@ -249,37 +249,15 @@ taken-fits p P R at e c =
     let v = then-parts (readBelow p R (u .mid)) _ (u .after) in
     rw (same-value (v .after) .0) (below-parts p (u .mid) R (v .first) .2)
 
--- a kind's code is the one that reading knows it by
-abbrev kindAt : ℕ → Kind
-kindAt n = cond (eqb n 0) addMember (cond (eqb n 1) deleteMember (cond (eqb n 2) addTaken deleteTaken))
-
-kind-at : (kind : Kind) → kindAt (kindCode kind) ≡ kind
-kind-at addMember = refl
-kind-at deleteMember = refl
-kind-at addTaken = refl
-kind-at deleteTaken = refl
-
-code-kind : (k : CodeKind) → kindAt (kindByte k) ≡ modelKind k
-code-kind AddMember = refl
-code-kind DeleteMember = refl
-code-kind AddTaken = refl
-code-kind DeleteTaken = refl
-
 -- one mutation that was read: k, i and x are the code's kind, role and operand
 module _ (s p : List ℕ) (at : ℕ) (o : KindOf) (d : o ≡ kindOf (byte p at)) where
   pub kind-unknown : (r : Bool) → o ≡ kind.No → OneAllowedAt s p at r
   unfolding OneAllowedAt
-  kind-unknown r h m end e = absurd (go (m .kind) (mutation-parts p (principals s) (roles s) at e .kind-byte))
-    where
-      go : (k : Kind) → kindCode k ≡ byte p at → ⊥
-      go addMember c = omega (arith, kind-none (byte p at) o d h)
-      go deleteMember c = omega (arith, kind-none (byte p at) o d h)
-      go addTaken c = omega (arith, kind-none (byte p at) o d h)
-      go deleteTaken c = omega (arith, kind-none (byte p at) o d h)
+  kind-unknown r h m end e = absurd (mutation-known p (principals s) (roles s) at e o d h)
 
   module _ (k : CodeKind) (j : o ≡ kind.Is k) where
     kind-is : {m : Mutation} {end : ℕ} → readMutation p (principals s) (roles s) at ≡ got m end → m .kind ≡ modelKind k
-    kind-is {m} e = sym (kind-at (m .kind)) ∙ ap kindAt (mutation-parts p (principals s) (roles s) at e .kind-byte ∙ kind-byte (byte p at) o d k j) ∙ code-kind k
+    kind-is e = mutation-kind p (principals s) (roles s) at e o d k j
 
     pub member-deleted : (r : Bool) → k ≡ DeleteMember → r ≡ true → OneAllowedAt s p at r
     unfolding OneAllowedAt allowed

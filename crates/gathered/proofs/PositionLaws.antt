@@ -2,16 +2,20 @@
 use mathlib.Core.Path.{_≡_, refl, sym, ap, _∙_}
 use Prim.Native.Nat.{ℕ, _+_, _-_, _*_, _<_, _≤_}
 use mathlib.Core.List.{List}
+use mathlib.Core.Bool.{cond}
 use native.Mathlib.Omega.{arith}
 use native.Mathlib.Nat.{mul-le-mul}
 use mir.Val.{Fits}
 use mir.Syntax.{w64}
+use lib.Dec.{eqb}
 use lib.ListN.{length}
 use borrow.Author.Tests.{le-leb, lt-leb}
 use Rattle.model.specs.Bytes.{byte}
+use Rattle.model.specs.Mutation.{Kind as ModelKind, addMember, deleteMember, addTaken, deleteTaken, Mutation}
+use Rattle.model.specs.Program.{got, readMutation}
 use Rattle.shared.proofs.ByteLaws.{byte-past}
 use Rattle.gathered.specs.Positions.{ahead, afterList, ExprEnds}
-use Rattle.model.proofs.Standing.{operatorCode, expr-deep, expr-there, expr-known, constant-parts, variable-parts, binary-parts}
+use Rattle.model.proofs.Standing.{kindCode, mutation-parts, operatorCode, expr-deep, expr-there, expr-known, constant-parts, variable-parts, binary-parts}
 use Rattle.program.specs.declared.codes.Operator.{Operator}
 use Rattle.program.specs.declared.codes.Operator.the-variants.{Sum, Difference, Product, Quotient, Less, Equal}
 use Rattle.program.specs.declared.codes.Expression.{Expression}
@@ -19,10 +23,13 @@ use Rattle.program.specs.declared.codes.Expression.the-variants.{Constant, Vari
 use Rattle.program.specs.declared.codes.ExpressionOf.{ExpressionOf}
 use Rattle.program.specs.declared.codes.ExpressionOf.the-variants as expression
 use Rattle.program.specs.declared.codes.AtomOf.{AtomOf}
+use Rattle.program.specs.declared.codes.Kind.{Kind}
+use Rattle.program.specs.declared.codes.Kind.the-variants.{AddMember, DeleteMember, AddTaken, DeleteTaken}
 use Rattle.program.specs.declared.codes.KindOf.{KindOf}
+use Rattle.program.specs.declared.codes.KindOf.the-variants as kind
 use Rattle.program.specs.declared.codes.StatementOf.{StatementOf}
-use Rattle.program.specs.Codes.{statementOf, atomOf, kindOf, expressionOf, operatorByte, expressionByte, modelOperator}
-use Rattle.program.proofs.CodeLaws.{expression-byte, expression-none}
+use Rattle.program.specs.Codes.{statementOf, atomOf, kindOf, kindByte, modelKind, expressionOf, operatorByte, expressionByte, modelOperator}
+use Rattle.program.proofs.CodeLaws.{kind-byte, kind-none, expression-byte, expression-none}
 
 -- a position ahead
 module _ (p : List ℕ) (at n : ℕ) where
@@ -120,3 +127,32 @@ module _ (p : List ℕ) (d at : ℕ) where
           g vars (u .right) end (rw (f vars (u .left) (u .mid) (rw m (u .left-read))) (u .right-read))
 
 pub ruleset ends = (expr-none, expr-unknown, expr-constant, expr-variable, expr-binary)
+
+-- the kind of a mutation that was read is the one whose code stands there
+abbrev kindAt : ℕ → ModelKind
+kindAt n = cond (eqb n 0) addMember (cond (eqb n 1) deleteMember (cond (eqb n 2) addTaken deleteTaken))
+
+kind-at : (kind : ModelKind) → kindAt (kindCode kind) ≡ kind
+kind-at addMember = refl
+kind-at deleteMember = refl
+kind-at addTaken = refl
+kind-at deleteTaken = refl
+
+code-kind : (k : Kind) → kindAt (kindByte k) ≡ modelKind k
+code-kind AddMember = refl
+code-kind DeleteMember = refl
+code-kind AddTaken = refl
+code-kind DeleteTaken = refl
+
+code-known : (kind : ModelKind) → kindCode kind ≤ 3
+code-known addMember = omega arith
+code-known deleteMember = omega arith
+code-known addTaken = omega arith
+code-known deleteTaken = omega arith
+
+module _ (p : List ℕ) (P R at : ℕ) {m : Mutation} {end : ℕ} (e : readMutation p P R at ≡ got m end) (o : KindOf) (d : o ≡ kindOf (byte p at)) where
+  pub mutation-known : o ≡ kind.No → ⊥
+  mutation-known h = omega (arith, kind-none (byte p at) o d h, mutation-parts p P R at e .kind-byte, code-known (m .kind))
+
+  pub mutation-kind : (k : Kind) → o ≡ kind.Is k → m .kind ≡ modelKind k
+  mutation-kind k h = sym (kind-at (m .kind)) ∙ ap kindAt (mutation-parts p P R at e .kind-byte ∙ kind-byte (byte p at) o d k h) ∙ code-kind k
