@@ -1,0 +1,4 @@
+pub mod AtomLaws
+mod MutationLaws
+mod ListedLaws
+pub mod ChangeLaws

@@ -1,0 +1,22 @@
+-- What carrying out an update gives.
+use mathlib.Core.Path.{_≡_}
+use Prim.Native.Nat.{ℕ, _+_}
+use mathlib.Core.List.{List}
+use mathlib.Core.Bool.{Bool}
+use lib.ListN.{length}
+use Rattle.model.specs.Bytes.{byte}
+use Rattle.model.specs.Policy.{principals, roles, SameFixed}
+use Rattle.model.specs.Mutation.{Mutation}
+use Rattle.model.specs.Syntax.{Query}
+use Rattle.model.specs.Program.{got, readMany, readQuery, readMutation}
+use Rattle.model.specs.Run.{mutateAll, broken}
+use Rattle.update.specs.Live.{Live}
+
+-- t is the policy s after the update whose code stands at a position, with the sets of its atoms beside it; and whether
+-- one of the queries listed at another position held under s and fails under t
+pub record CarriedOut (p s : List ℕ) (at listing count : ℕ) (t atoms : List ℕ) (broke : Bool) : Type 0 where
+  pub live : Live t atoms
+  pub same-fixed : SameFixed s t
+  pub same-length : length t ≡ length s
+  pub made : (ms : List Mutation) (end : ℕ) → readMany (readMutation p (principals s) (roles s)) (byte p (at + 1)) (at + 2) ≡ got ms end → t ≡ mutateAll s ms
+  pub judged : (qs : List Query) (end : ℕ) → readMany (readQuery p (roles s)) count listing ≡ got qs end → broke ≡ broken qs s t

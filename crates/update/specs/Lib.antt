@@ -1,0 +1,4 @@
+pub mod Live
+pub mod Mutations
+pub mod Listed
+pub mod Change
