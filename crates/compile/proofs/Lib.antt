@@ -1,1 +1,2 @@
 pub mod SizeLaws
+mod ExpressionLaws
