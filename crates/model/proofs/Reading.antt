@@ -135,6 +135,7 @@ module _ (p : List ℕ) (R : ℕ) where
   unfolding readQuery
   query-gives at = then-gives (atom-gives at) (λ a mid h. then-gives (atom-gives mid) (λ b end k. gives (omega arith, k .1, (h .2, k .2))))
 
+  -- a query that was read names only roles that there are
   pub query-fits : (at : ℕ) {q : Query} {end : ℕ} → readQuery p R at ≡ got q end → QueryFits R q
   query-fits at h = gives-got (rw h at (query-gives at)) .2
 
@@ -196,6 +197,15 @@ module _ (p : List ℕ) (P R vars : ℕ) where
   unfolding readStmt
   stmt-gives zero at = fails {k = programDepth} (omega arith)
   stmt-gives (suc depth) at = then-gives (byte-gives p at) (λ code next h. stmt-at-gives (readStmt p P R vars depth) (stmt-gives depth) at code next (omega arith) (omega arith))
+
+  -- what was read of statements ends where they start, or behind, and inside the bytes
+  pub stmt-within : (depth at : ℕ) {x : Stmt} {end : ℕ} → readStmt p P R vars depth at ≡ got x end → (at ≤ end) × (end ≤ length p)
+  stmt-within depth at h = let u = gives-got (rw h at (stmt-gives depth at)) in (u .0, u .1)
+
+  pub stmts-within : (depth n at : ℕ) {xs : List Stmt} {end : ℕ} → at ≤ length p → readMany (readStmt p P R vars depth) n at ≡ got xs end → (at ≤ end) × (end ≤ length p)
+  stmts-within depth n at l h =
+      let u = gives-got (rw h at (many-gives p Whole whole-later (readStmt p P R vars depth) (stmt-gives depth) n at l)) in
+      (u .0, u .1)
 
 -- a variable's label is a role that there is, or everyone
 abbrev pub LabelFits : ℕ → ℕ → Type 0
