@@ -1,2 +1,6 @@
-pub mod SizeLaws
+mod SizeLaws
 mod ExpressionLaws
+mod MadeLaws
+mod EmitLaws
+mod BlockLaws
+pub mod RepresentLaws
