@@ -32,3 +32,9 @@ pub const FLOW_GRANT: u32 = 16;
 pub const FLOW_READING: u32 = 17;
 
 pub const FLOW_TRUST: u32 = 18;
+
+pub const MEMORY_LENGTH: u32 = 20;
+
+pub const FUEL_RANGE: u32 = 21;
+
+pub const FUEL_SPENT: u32 = 22;
