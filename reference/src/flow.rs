@@ -234,9 +234,12 @@ impl Checker<'_> {
                     false => joins.joined(|side| around.list_labels.on(side)),
                     true => joins,
                 };
-                let derivable = |side: Side| {
-                    context.order.at_most_each(flowing.on(side), around.written.on(side))
+                let written = match self.rules.own_roles_only {
+                    false => around.written,
+                    true => self.labels_written(Written::anywhere_in(statement)),
                 };
+                let derivable =
+                    |side: Side| context.order.at_most_each(flowing.on(side), written.on(side));
                 self.both_sides(statement, derivable)
             }
             Form::Transaction(transaction) => {
@@ -264,9 +267,13 @@ impl Checker<'_> {
                 list.iter()
                     .fold(Join::EMPTY, |join, query| join | side.query_label_by(self.rules, *query))
             }),
-            written: Sides::both(|side| Join::of(written.labels(side, self.labels))),
+            written: self.labels_written(written),
         };
         self.statement(&transaction.body, Context { transaction: Some(&around), ..context })
+    }
+
+    fn labels_written(&self, written: Written) -> Sides {
+        Sides::both(|side| Join::of(written.labels(side, self.labels)))
     }
 
     /// The context of what an if or while holds.
@@ -296,7 +303,8 @@ pub fn may_make(policy: &Policy, mutation: &Mutation) -> bool {
     may_make_by(&Rules::default(), policy, mutation)
 }
 
-fn may_make_by(rules: &Rules, policy: &Policy, mutation: &Mutation) -> bool {
+/// The same by other rules.
+pub fn may_make_by(rules: &Rules, policy: &Policy, mutation: &Mutation) -> bool {
     let row = &policy.rows[usize::from(mutation.role)];
     match mutation.kind {
         Kind::AddMember => row.may_hold(rules, 1 << mutation.operand),

@@ -7,7 +7,7 @@ use crate::policy::{Policy, MOST_PRINCIPALS, MOST_ROLES};
 use crate::program::{Atom, Labels, Program, MOST_BYTES, MOST_VARIABLES};
 use crate::rng::Rng;
 use crate::shapes::{labels, OPEN};
-use crate::writer::{accepted, faults_possible, faulty, Fault};
+use crate::writer::{self, accepted, faults_possible, faulty, Fault};
 
 /// A program, and a policy for it.
 #[derive(Clone, Debug)]
@@ -69,6 +69,18 @@ pub fn rich(rng: &mut Rng) -> Case {
     let labels = some_labels(rng, &policy, 0);
     let size = size(rng);
     Case { program: accepted(rng, &policy, labels, size, true), policy }
+}
+
+/// An accepted program written to be run, with loops that end, and updates that roll back.
+pub fn live(rng: &mut Rng) -> Case {
+    let (principals, roles) = (rng.between(2, 4), rng.between(2, 7));
+    let policy = match rng.below(8) {
+        0 => policy(rng, 1, 1),
+        _ => valid_of_size(rng, principals, roles),
+    };
+    let labels = some_labels(rng, &policy, 1);
+    let size = size(rng) + 200;
+    Case { program: writer::live(rng, &policy, labels, size.min(MOST_BYTES)), policy }
 }
 
 /// A program with this fault at its first marked statement.

@@ -34,5 +34,9 @@ pub const ADDED: u32 = 16;
 pub const READING: u32 = 17;
 /// Trust side not derivable.
 pub const TRUST: u32 = 18;
+/// Memory is not 4V bytes.
+pub const MEMORY: u32 = 20;
+/// Fuel 0 or over 1,000,000.
+pub const FUEL: u32 = 21;
 /// A unit wanted with none left.
 pub const SPENT: u32 = 22;

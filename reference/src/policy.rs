@@ -149,7 +149,7 @@ impl Row {
     }
 
     /// The row's viewers or trusters.
-    fn audience(&self, side: Side) -> u32 {
+    pub fn audience(&self, side: Side) -> u32 {
         match side {
             Side::Reading => self.viewers,
             Side::Trust => self.trusters,

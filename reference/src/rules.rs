@@ -27,6 +27,8 @@ pub struct Rules {
     pub listed_left_out: bool,
     /// An update is held to the variables that its transaction assigns, not to the roles it mutates.
     pub roles_left_out: bool,
+    /// An update is held to the roles that it mutates itself, not to all that its transaction writes.
+    pub own_roles_only: bool,
     /// This side is not checked: there is no 17, or no 18.
     pub unchecked: Option<Side>,
     /// A role is at most its viewers, and at most its trusters.
@@ -45,6 +47,8 @@ pub struct Rules {
     pub no_rollback: bool,
     /// What held before an update is looked up at the transaction's latest start.
     pub compared_with_start: bool,
+    /// A rollback puts the policy back too, to the transaction's latest start.
+    pub policy_undone: bool,
 }
 
 impl Rules {

@@ -17,6 +17,7 @@ use crate::shapes::*;
 
 mod expressions;
 mod faults;
+mod live;
 mod plan;
 
 use expressions::{expression, size};
@@ -82,6 +83,15 @@ pub fn accepted(
     Program { labels, statement }
 }
 
+/// The same, rich, and written to be run: most loops count to a few, most listed queries hold at the
+/// start, and updates aim at them.
+pub fn live(rng: &mut Rng, policy: &Policy, labels: Vec<Labels>, most_bytes: usize) -> Program {
+    let mut writer = Writer::new(rng, policy, &labels, most_bytes);
+    writer.live = true;
+    let statement = writer.whole(true);
+    Program { labels, statement }
+}
+
 /// A program with this fault at its first marked statement. The policy and the first labels are
 /// those of `faults_possible`.
 pub fn faulty(
@@ -113,6 +123,10 @@ struct Place {
     joins: Sides,
     order: Rc<Order>,
     plan: Option<Rc<Plan>>,
+    /// The query in whose first branch it stands, of several the innermost.
+    asked: Option<Query>,
+    /// The variables that loops around count by.
+    counters: u64,
 }
 
 impl Place {
@@ -122,13 +136,14 @@ impl Place {
     }
 
     fn knowing(&self, query: Query) -> Place {
-        Place { order: Rc::new(self.order.knowing(query)), ..self.clone() }
+        Place { order: Rc::new(self.order.knowing(query)), asked: Some(query), ..self.clone() }
     }
 
     /// Whether an assignment here may write the variable, as far as the context goes.
     fn allows(&self, variable: u8, label: Labels) -> bool {
         let planned = self.plan.as_ref().is_none_or(|plan| plan.may.variables >> variable & 1 == 1);
-        planned && SIDES.iter().all(|side| self.context_fits(*side, side.label(label)))
+        let free = self.counters >> variable & 1 == 0;
+        free && planned && SIDES.iter().all(|side| self.context_fits(*side, side.label(label)))
     }
 
     fn context_fits(&self, side: Side, label: Atom) -> bool {
@@ -144,12 +159,15 @@ impl Place {
 struct Writer<'a> {
     rng: &'a mut Rng,
     policy: &'a Policy,
+    meanings: Vec<u32>,
     labels: &'a [Labels],
     atoms: Vec<Atom>,
     /// Bytes still free; each statement to come has one besides, enough for a skip.
     left: usize,
     /// Whether statements hold statements as deep as they can.
     deep: bool,
+    /// Whether the program is written to be run.
+    live: bool,
     /// A fault to put in, after so many more statements.
     fault: Option<(Fault, usize)>,
     first_put_in: bool,
@@ -159,8 +177,18 @@ impl<'a> Writer<'a> {
     fn new(rng: &'a mut Rng, policy: &'a Policy, labels: &'a [Labels], most: usize) -> Self {
         let left = most.saturating_sub(6 + 2 * labels.len() + 2 + LAST_STATEMENT);
         let deep = rng.below(6) == 0;
-        let atoms = atoms(policy);
-        Writer { rng, policy, labels, atoms, left, deep, fault: None, first_put_in: false }
+        Writer {
+            rng,
+            policy,
+            meanings: policy.meanings(),
+            labels,
+            atoms: atoms(policy),
+            left,
+            deep,
+            live: false,
+            fault: None,
+            first_put_in: false,
+        }
     }
 
     fn spend(&mut self, bytes: usize) -> bool {
@@ -178,6 +206,8 @@ impl<'a> Writer<'a> {
             joins: Sides::both(|_| Join::EMPTY),
             order: Rc::new(Order::new(self.policy)),
             plan: None,
+            asked: None,
+            counters: 0,
         };
         let count = 1 + self.rng.below(if self.deep { 2 } else { 5 });
         let rich_at = self.rng.below(count);
@@ -203,7 +233,9 @@ impl<'a> Writer<'a> {
         if let Some(statement) = self.fault_here(place) {
             return statement;
         }
-        let form = self.form(place);
+        let looped = self.live && place.depth == 2 && self.rng.below(2) == 0;
+        let looped = looped.then(|| self.counted_loop(place)).flatten();
+        let form = looped.or_else(|| self.form(place));
         form.unwrap_or_else(|| {
             self.left -= 1;
             skip()
@@ -218,8 +250,9 @@ impl<'a> Writer<'a> {
             1..4 => self.assign(place),
             4..8 if leaf => self.update(place).or_else(|| self.assign(place)),
             4..8 => self.block(place),
-            8..11 => self.if_else(place),
-            11..13 => self.while_true(place),
+            8..10 => self.if_else(place),
+            10 if !self.live => self.if_else(place),
+            10..13 => self.while_true(place),
             13..17 => self.ask(place).or_else(|| self.transaction(place)),
             _ => self.transaction(place).or_else(|| self.ask(place)),
         }
@@ -255,6 +288,9 @@ impl<'a> Writer<'a> {
     }
 
     fn while_true(&mut self, place: &Place) -> Option<Statement> {
+        if self.live && self.rng.below(16) > 0 {
+            return self.counted_loop(place);
+        }
         let (condition, inner) = self.condition(1 + 1, place)?;
         Some(while_true(condition, self.statement(&inner)))
     }
@@ -286,12 +322,8 @@ impl<'a> Writer<'a> {
             return None;
         }
         let count = self.mutation_count();
-        (count > 0 && self.spend(2 + 3 * count)).then(|| {
-            update((0..count).map(|_| {
-                let role = self.rng.bit_of(plan.may.roles) as u8;
-                self.allowed_mutation(role)
-            }))
-        })
+        (count > 0 && self.spend(2 + 3 * count))
+            .then(|| update((0..count).map(|_| self.planned_mutation(place, plan))))
     }
 
     /// As many as there is room for, or 0.
@@ -302,6 +334,16 @@ impl<'a> Writer<'a> {
             _ => 1 + self.rng.below(2),
         };
         count.min(self.left.saturating_sub(2) / 3)
+    }
+
+    /// A mutation of a role that the plan has.
+    fn planned_mutation(&mut self, place: &Place, plan: &Plan) -> Mutation {
+        let aimed = self.live && self.rng.below(4) > 0;
+        let aimed = aimed.then(|| self.aimed_mutation(place, plan)).flatten();
+        aimed.unwrap_or_else(|| {
+            let role = self.rng.bit_of(plan.may.roles) as u8;
+            self.allowed_mutation(role)
+        })
     }
 
     fn allowed_mutation(&mut self, role: u8) -> Mutation {
@@ -337,13 +379,16 @@ impl<'a> Writer<'a> {
             let (list, known) = (plan.list.clone(), plan.known.clone());
             let inner = place.inner(|_| Join::EMPTY);
             let inner = Place { plan: Some(Rc::new(plan)), ..inner };
-            transaction(list, self.nest(&inner, &known))
+            let turns = self.live && known.is_empty();
+            let body = turns.then(|| self.turns(&inner)).flatten();
+            transaction(list, body.unwrap_or_else(|| self.nest(&inner, &known)))
         })
     }
 
     fn atom(&mut self) -> Atom {
         match self.rng.below(8) {
             0 => Atom::Everyone,
+            1..7 if self.live => Atom::Role(self.rng.below(self.policy.rows.len()) as u8),
             _ => *self.rng.pick(&self.atoms),
         }
     }

@@ -9,7 +9,7 @@ use common::seeds::with_both_seeds;
 use reference::damage_program::*;
 use reference::encode::encode;
 use reference::flow::check;
-use reference::generate_program::{self, any, rich, with_fault, Case};
+use reference::generate_program::{self, any, live, rich, with_fault, Case};
 use reference::generate_rules::{chain_of_queries, written_elsewhere};
 use reference::largest;
 use reference::order::{atoms, Join, KnownOrder, Order};
@@ -22,7 +22,7 @@ const TRIES: usize = 1_000;
 #[test]
 fn accepted_programs_are_read_as_they_are_and_accepted() {
     with_both_seeds(|mut rng| {
-        for make in [any, rich] {
+        for make in [any, rich, live] {
             for _ in 0..TRIES {
                 let Case { policy, mut program } = make(&mut rng);
                 let file = encode(&mut program);

@@ -9,8 +9,9 @@ use reference::generate;
 use reference::policy::{Policy, Row, Side, SIDES};
 use reference::program::{Atom, Form, Kind, Labels, Program, Query, Statement, Transaction};
 use reference::rules::Rules;
-use reference::run::{self, set, Made};
+use reference::run::{self, call, set, End};
 use reference::shapes::*;
+use reference::two_runs::{self, NoLeak, Observer, Pair, State};
 use reference::worked::E;
 use reference::{proved, proved_program};
 
@@ -25,112 +26,13 @@ const R0: Atom = Atom::Role(0);
 const R1: Atom = Atom::Role(1);
 const R2: Atom = Atom::Role(2);
 
-/// Two runs: files and memories.
-#[derive(Clone)]
-struct Exhibit {
-    policies: [Policy; 2],
-    program: Program,
-    memories: [Vec<i32>; 2],
-}
-
-/// Why two runs are no leak.
-#[derive(Debug, PartialEq, Eq)]
-enum NoLeak {
-    Refused(u32),
-    FixedPartsDiffer,
-    StartsDiffer,
-    Spent,
-    Gains,
-    EndsAlike,
-    /// The ends differ only in variables that are open in one run and hidden in the other.
-    OpennessDiffers,
-}
-
-/// Whether, by these rules, both runs are accepted and finish, no update in either puts the
-/// observer into a role's meaning, the starts agree on all that is open, and the ends do not.
-fn leak(rules: &Rules, exhibit: &Exhibit, observer: u8, side: Side) -> Result<(), NoLeak> {
-    let bytes = encode(&mut exhibit.program.clone()).bytes;
-    for policy in &exhibit.policies {
-        flow::accepted_by(rules, &generate::encode(policy), &bytes)
-            .map_err(|refusal| NoLeak::Refused(refusal.number))?;
-    }
-    let [first, second] = &exhibit.policies;
-    if fixed_part(first) != fixed_part(second) {
-        return Err(NoLeak::FixedPartsDiffer);
-    }
-    let labels = &exhibit.program.labels;
-    let open = Open { observer, side, labels };
-    let starts = [0, 1].map(|run| (&exhibit.policies[run], &exhibit.memories[run][..]));
-    if open.differences(starts).in_either {
-        return Err(NoLeak::StartsDiffer);
-    }
-    let runs =
-        starts.map(|(policy, memory)| run::run_by(rules, policy, &exhibit.program, memory, FUEL));
-    if runs.iter().any(|run| run.number != 0) {
-        return Err(NoLeak::Spent);
-    }
-    if runs.iter().flat_map(|run| &run.updates).any(|made| puts_in(made, observer)) {
-        return Err(NoLeak::Gains);
-    }
-    let found = open.differences([0, 1].map(|run| (&runs[run].policy, &runs[run].memory[..])));
-    match (found.in_both, found.in_either) {
-        (true, _) => Ok(()),
-        (false, true) => Err(NoLeak::OpennessDiffers),
-        (false, false) => Err(NoLeak::EndsAlike),
-    }
-}
-
-/// All of a policy but members and takes.
-fn fixed_part(policy: &Policy) -> Policy {
-    let rows = policy.rows.iter().map(|row| Row { members: 0, takes: 0, ..*row }).collect();
-    Policy { rows, ..policy.clone() }
-}
-
-/// Whether the principal stands in some role's meaning after the update and did not before.
-fn puts_in(made: &Made, principal: u8) -> bool {
-    let (before, after) = (made.before.meanings(), made.after.meanings());
-    before.iter().zip(&after).any(|(before, after)| (after & !before) >> principal & 1 == 1)
-}
-
-/// What is open to an observer on a side.
-struct Open<'a> {
-    observer: u8,
-    side: Side,
-    labels: &'a [Labels],
-}
-
-/// Whether an open row differs, or a variable that is open in both runs, or at least in one.
-struct Differences {
-    in_both: bool,
-    in_either: bool,
-}
-
-impl Open<'_> {
-    fn open(&self, policy: &Policy, atom: Atom) -> bool {
-        set(policy, atom) >> self.observer & 1 == 1
-    }
-
-    fn differences(&self, states: [(&Policy, &[i32]); 2]) -> Differences {
-        let [(policy, memory), (other_policy, other_memory)] = states;
-        let row_differs = (0..policy.rows.len()).any(|role| {
-            let (row, other) = (policy.rows[role], other_policy.rows[role]);
-            self.open(policy, self.side.audience(role as u8))
-                && (row.members, row.takes) != (other.members, other.takes)
-        });
-        let mut found = Differences { in_both: row_differs, in_either: row_differs };
-        for (variable, labels) in self.labels.iter().enumerate() {
-            let differs = memory[variable] != other_memory[variable];
-            let label = self.side.label(*labels);
-            let opens = [policy, other_policy].map(|policy| self.open(policy, label));
-            found.in_both |= differs && opens[0] && opens[1];
-            found.in_either |= differs && (opens[0] || opens[1]);
-        }
-        found
-    }
+/// Whether the exhibit leaks to one principal, with fuel that is enough for each.
+fn leak(rules: &Rules, exhibit: &Pair, observer: u8, side: Side) -> Result<(), NoLeak> {
+    two_runs::leak(rules, exhibit, Observer::one(observer, side), FUEL)
 }
 
 /// The exhibit with the reading and the trust side swapped.
-fn swapped(exhibit: &Exhibit) -> Exhibit {
+fn swapped(exhibit: &Pair) -> Pair {
     let policies = exhibit.policies.clone().map(|mut policy| {
         for row in &mut policy.rows {
             (row.viewers, row.trusters) = (row.trusters, row.viewers);
@@ -142,7 +44,7 @@ fn swapped(exhibit: &Exhibit) -> Exhibit {
         (labels.reading, labels.trust) = (labels.trust, labels.reading);
     }
     swap_queries(&mut program.statement);
-    Exhibit { policies, program, memories: exhibit.memories.clone() }
+    Pair { policies, program, memories: exhibit.memories.clone() }
 }
 
 fn swap_queries(statement: &mut Statement) {
@@ -174,7 +76,7 @@ fn swap_query(query: &mut Query) {
 
 /// By the document's rules both the reference and the proved library give the program this number
 /// at this place, under either policy.
-fn assert_verdict(exhibit: &Exhibit, expected: (u32, usize)) {
+fn assert_verdict(exhibit: &Pair, expected: (u32, usize)) {
     let program = encode(&mut exhibit.program.clone()).bytes;
     for policy in &exhibit.policies {
         let policy = generate::encode(policy);
@@ -186,13 +88,13 @@ fn assert_verdict(exhibit: &Exhibit, expected: (u32, usize)) {
 
 /// The exhibit as it is and with the sides swapped, each with the side that it is for and the rules
 /// that are broken for it.
-fn on_both_sides(broken: Rules, exhibit: &Exhibit) -> [(Exhibit, Side, Rules); 2] {
+fn on_both_sides(broken: Rules, exhibit: &Pair) -> [(Pair, Side, Rules); 2] {
     [(exhibit.clone(), Side::Reading, broken), (swapped(exhibit), Side::Trust, broken.swapped())]
 }
 
 /// Refused with this number (17 on the reading side is 18 on the trust side) at this place, but a
 /// leak where the rule is broken.
-fn assert_rule_refuses(broken: Rules, exhibit: &Exhibit, number: u32, place: usize) {
+fn assert_rule_refuses(broken: Rules, exhibit: &Pair, number: u32, place: usize) {
     for (exhibit, side, broken) in on_both_sides(broken, exhibit) {
         let number = if (number, side) == (17, Side::Trust) { 18 } else { number };
         assert_verdict(&exhibit, (number, place));
@@ -202,13 +104,30 @@ fn assert_rule_refuses(broken: Rules, exhibit: &Exhibit, number: u32, place: usi
     }
 }
 
-/// Accepted and no leak, but a leak where the rule, one of the run's, is broken.
-fn assert_rule_stops(broken: Rules, exhibit: &Exhibit) {
+/// Accepted and no leak, but a leak where the rule, one of the run's, is broken. The library's runs end
+/// as the reference's do by the document's rules, and not as they do where the rule is broken.
+fn assert_rule_stops(broken: Rules, exhibit: &Pair) {
     for (exhibit, side, broken) in on_both_sides(broken, exhibit) {
         assert_verdict(&exhibit, (0, 0));
+        let [found, by_document, by_broken] = [
+            exhibit.starts().map(|start| proved_end(&exhibit.program, start)),
+            exhibit.runs(&Rules::default(), FUEL).map(|(end, _)| end),
+            exhibit.runs(&broken, FUEL).map(|(end, _)| end),
+        ];
+        assert_eq!(found, by_document, "{side:?}");
+        assert_ne!(found, by_broken, "{side:?}");
         assert_eq!(leak(&Rules::default(), &exhibit, 0, side), Err(NoLeak::EndsAlike), "{side:?}");
         assert_eq!(leak(&broken, &exhibit, 0, side), Ok(()), "{side:?}");
     }
+}
+
+/// How the library's run of an accepted program ends.
+fn proved_end(program: &Program, (policy, memory): State) -> End {
+    let program = encode(&mut program.clone()).bytes;
+    let (mut policy, mut memory) = (generate::encode(policy), call::bytes(memory));
+    let (number, units) = proved_program::run(&mut policy, &program, &mut memory, FUEL);
+    let policy = Policy::read(&policy).expect("a run leaves an accepted policy");
+    End { number, units, policy, memory: call::values(&memory) }
 }
 
 /// A policy of roles with these viewers and members, that both principals trust.
@@ -225,8 +144,8 @@ fn policy(roles: &[(u32, u32)]) -> Policy {
 }
 
 /// One policy, v0 is 0 in one run and 1 in the other, v1 is 0; with their reading labels.
-fn differing_in_v0(roles: &[(u32, u32)], v0: Atom, v1: Atom, statement: Statement) -> Exhibit {
-    Exhibit {
+fn differing_in_v0(roles: &[(u32, u32)], v0: Atom, v1: Atom, statement: Statement) -> Pair {
+    Pair {
         policies: [policy(roles), policy(roles)],
         program: Program { labels: vec![read_by(v0), read_by(v1)], statement },
         memories: [vec![0, 0], vec![1, 0]],
@@ -234,8 +153,8 @@ fn differing_in_v0(roles: &[(u32, u32)], v0: Atom, v1: Atom, statement: Statemen
 }
 
 /// Two policies, and v0, which everyone reads, is 0 in both.
-fn differing_in_policy(policies: [Policy; 2], statement: Statement) -> Exhibit {
-    Exhibit {
+fn differing_in_policy(policies: [Policy; 2], statement: Statement) -> Pair {
+    Pair {
         policies,
         program: Program { labels: vec![OPEN], statement },
         memories: [vec![0], vec![0]],
@@ -296,17 +215,17 @@ fn side_unchecked() {
 }
 
 /// The hidden v0 is assigned to v1, which everyone reads.
-fn plain_copy() -> Exhibit {
+fn plain_copy() -> Pair {
     differing_in_v0(&[(BOTH, OTHER)], R0, Atom::Everyone, assign(1, variable(0)))
 }
 
 /// v1 tells whether the hidden v0 is nonzero.
-fn guarded_by_if() -> Exhibit {
+fn guarded_by_if() -> Pair {
     let statement = if_else(variable(0), assign(1, constant(1)), skip());
     differing_in_v0(&[(BOTH, OTHER)], R0, Atom::Everyone, statement)
 }
 
-fn guarded_by_while() -> Exhibit {
+fn guarded_by_while() -> Pair {
     let body = block([assign(0, constant(0)), assign(1, constant(1))]);
     differing_in_v0(&[(BOTH, OTHER)], R0, Atom::Everyone, while_true(variable(0), body))
 }
@@ -318,7 +237,7 @@ fn query_not_joined() {
 }
 
 /// v0 tells whether principal 1 is a member of role 0, whose row principal 0 does not view.
-fn hidden_role_asked() -> Exhibit {
+fn hidden_role_asked() -> Pair {
     let query = Query(R0, Atom::Viewers(0));
     differing_in_policy(
         [policy(&[(OTHER, 0)]), policy(&[(OTHER, OTHER)])],
@@ -360,7 +279,7 @@ fn context_dropped_at_update() {
 }
 
 /// The row of role 0, which both view, tells whether the hidden v0 is nonzero.
-fn updated_under_if() -> Exhibit {
+fn updated_under_if() -> Pair {
     let statement = if_else(variable(0), transaction([], delete_member(0, 1)), skip());
     differing_in_v0(&[(BOTH, OTHER)], R0, Atom::Everyone, statement)
 }
@@ -383,7 +302,7 @@ fn roles_left_out_under_policy_e() {
     ];
     let policy = Policy::read(&E).expect("policy E is accepted");
     let tree = Program::read(&policy, &program).expect("the program can be read");
-    let exhibit = Exhibit {
+    let exhibit = Pair {
         policies: [policy.clone(), policy],
         program: tree,
         memories: [vec![0, 1], vec![0, 0]],
@@ -427,7 +346,7 @@ fn grants_unchecked() {
 }
 
 /// Role 0, which principal 0 views, comes to take role 1, which they do not.
-fn taken_by_update() -> Exhibit {
+fn taken_by_update() -> Pair {
     let roles = |members| policy(&[(BOTH, 0), (OTHER, members), (BOTH, OTHER)]);
     let query = Query(R0, R2);
     let body = block([
@@ -459,7 +378,7 @@ fn taken_roles_judged_on_one_side() {
 /// has that role, and to which anything that depends on its row may flow.
 #[test]
 fn members_judged_on_one_side() {
-    let exhibit = Exhibit {
+    let exhibit = Pair {
         policies: [policy(&[(OTHER, OBSERVER)]), policy(&[(OTHER, BOTH)])],
         program: Program {
             labels: vec![read_by(R0)],
@@ -559,7 +478,7 @@ fn gaining_is_no_leak() {
 /// The other things that make two runs no leak.
 #[test]
 fn other_pairs_are_no_leak() {
-    let by_default = |exhibit: &Exhibit| leak(&Rules::default(), exhibit, 0, Side::Reading);
+    let by_default = |exhibit: &Pair| leak(&Rules::default(), exhibit, 0, Side::Reading);
     let roles = [(BOTH, OTHER)];
     let alike = differing_in_v0(&roles, R0, Atom::Everyone, skip());
     assert_verdict(&alike, (0, 0));
@@ -567,9 +486,9 @@ fn other_pairs_are_no_leak() {
     // Principal 1 reads v0.
     assert_eq!(leak(&Rules::default(), &alike, 1, Side::Reading), Err(NoLeak::StartsDiffer));
     assert_eq!(leak(&Rules::default(), &alike, 0, Side::Trust), Err(NoLeak::StartsDiffer));
-    let open_rows = Exhibit { policies: [policy(&roles), policy(&[(BOTH, 0)])], ..alike.clone() };
+    let open_rows = Pair { policies: [policy(&roles), policy(&[(BOTH, 0)])], ..alike.clone() };
     assert_eq!(by_default(&open_rows), Err(NoLeak::StartsDiffer));
-    let viewers = Exhibit { policies: [policy(&roles), policy(&[(OTHER, OTHER)])], ..alike };
+    let viewers = Pair { policies: [policy(&roles), policy(&[(OTHER, OTHER)])], ..alike };
     assert_eq!(by_default(&viewers), Err(NoLeak::FixedPartsDiffer));
     let endless = while_true(constant(1), skip());
     let spent = differing_in_v0(&roles, R0, Atom::Everyone, endless);

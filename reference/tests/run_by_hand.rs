@@ -1,62 +1,100 @@
-//! Document 01's worked runs and small runs with known ends, of the reference: the library has no
-//! call that runs a program yet. That their programs are accepted both are asked.
+//! Document 01's worked runs and small runs with known ends, of both implementations.
 
+mod common {
+    pub mod compared;
+    pub mod framed;
+}
+
+use common::compared::{compare, Input};
 use reference::encode::encode;
+use reference::generate::encode as encode_policy;
 use reference::policy::Policy;
 use reference::program::{Atom, Expression, Kind, Operator, Program, Query};
-use reference::run::{self, Made, Run};
+use reference::rng::Rng;
+use reference::rules::Rules;
+use reference::run::call::{bytes, Answer};
+use reference::run::{self, Event};
 use reference::shapes::*;
 use reference::worked::{E, F};
-use reference::{flow, proved_program};
 
 const R0: Atom = Atom::Role(0);
 const R1: Atom = Atom::Role(1);
 
-fn read(policy: &[u8]) -> Policy {
-    Policy::read(policy).expect("the policy is accepted")
+/// The answer of both to a run of this program.
+fn run_on(policy: &[u8], mut program: Program, memory: &[i32], fuel: u32) -> Answer {
+    let program = encode(&mut program).bytes;
+    let input = Input { policy: policy.to_vec(), program, memory: bytes(memory), fuel };
+    compare(&mut Rng::new(1), "by hand", &input).0
 }
 
-/// The end of a run of a program that is accepted under the policy.
-fn run_on(policy: &[u8], mut program: Program, memory: &[i32], fuel: u32) -> Run {
-    let bytes = encode(&mut program).bytes;
-    assert_eq!(flow::accepted(policy, &bytes), Ok(program.clone()));
-    assert_eq!(proved_program::verdict(policy, &bytes), (0, 0));
-    run::run(&read(policy), &program, memory, fuel)
+/// What a finished run or a refusal leaves.
+fn answer(number: u32, units: u32, policy: &[u8], memory: &[i32]) -> Answer {
+    Answer { number, units, policy: policy.to_vec(), memory: bytes(memory) }
 }
 
 /// The worked program on policy F, with one pair listed and asked.
-fn run_on_f(query: Query, fuel: u32) -> Run {
+fn on_f(query: Query) -> Program {
     let first = block([update([mutation(Kind::DeleteTaken, 0, 1)]), assign(0, constant(1))]);
     let statement = transaction([query], ask(query, first, skip()));
-    run_on(&F, Program { labels: vec![OPEN], statement }, &[7], fuel)
+    Program { labels: vec![OPEN], statement }
+}
+
+/// Policy F, whose role 0 takes no role any more.
+fn f_after() -> Vec<u8> {
+    let mut policy = F.to_vec();
+    assert_eq!(policy[21], 0b10, "role 0 takes role 1");
+    policy[21] = 0;
+    policy
 }
 
 #[test]
 fn rollback_on_f() {
-    let mut after = read(&F);
-    after.rows[0].takes = 0;
-    let made = Made { before: read(&F), after: after.clone() };
     for fuel in [6, 7, 1_000_000] {
-        let found = run_on_f(Query(R0, R1), fuel);
-        let updates = vec![made.clone()];
-        let end = Run { number: 0, units: 6, policy: after.clone(), memory: vec![7], updates };
-        assert_eq!(found, end);
+        let found = run_on(&F, on_f(Query(R0, R1)), &[7], fuel);
+        assert_eq!(found, answer(0, 6, &f_after(), &[7]));
     }
     for fuel in 1..=5 {
-        let found = run_on_f(Query(R0, R1), fuel);
-        let updates = if fuel < 3 { vec![] } else { vec![made.clone()] };
-        let end = Run { number: 22, units: fuel, policy: read(&F), memory: vec![7], updates };
-        assert_eq!(found, end);
+        let found = run_on(&F, on_f(Query(R0, R1)), &[7], fuel);
+        assert_eq!(found, answer(22, fuel, &F, &[7]));
     }
 }
 
 #[test]
 fn no_rollback_on_f_reversed() {
-    let found = run_on_f(Query(R1, R0), 1_000_000);
-    assert_eq!((found.number, found.units, &found.memory[..]), (0, 4, &[1][..]));
-    assert_eq!(found.policy.rows[0].takes, 0);
-    assert_eq!(found.updates.len(), 1);
-    assert_eq!(run_on_f(Query(R1, R0), 3).number, 22);
+    let found = run_on(&F, on_f(Query(R1, R0)), &[7], 1_000_000);
+    assert_eq!(found, answer(0, 4, &f_after(), &[1]));
+    assert_eq!(run_on(&F, on_f(Query(R1, R0)), &[7], 3).number, 22);
+}
+
+/// What was assigned in the transaction is put back, what was assigned before it stays.
+#[test]
+fn memory_goes_back() {
+    let query = Query(R0, R1);
+    let lost = update([mutation(Kind::DeleteTaken, 0, 1)]);
+    let body = ask(query, block([assign(0, constant(1)), lost]), skip());
+    let statement = block([assign(1, constant(2)), transaction([query], body)]);
+    let program = Program { labels: vec![OPEN; 2], statement };
+    // The assignment; a start, the query, an assignment, the update; a restart, the query, its skip.
+    assert_eq!(run_on(&F, program.clone(), &[7, 8], 8), answer(0, 8, &f_after(), &[7, 2]));
+    assert_eq!(run_on(&F, program, &[7, 8], 7), answer(22, 7, &F, &[7, 8]));
+}
+
+/// An update is carried out where a rollback follows, and where the run is spent after it.
+#[test]
+fn updates_on_f() {
+    let policy = Policy::read(&F).expect("policy F is accepted");
+    let mut program = on_f(Query(R0, R1));
+    encode(&mut program);
+    for (fuel, count) in [(2, 0), (3, 1), (5, 1), (6, 1)] {
+        let mut updates = vec![];
+        let mut note = |event: Event| {
+            if let Event::Update { before, after } = event {
+                updates.push([before, after].map(encode_policy));
+            }
+        };
+        run::run_watched(&Rules::default(), &policy, &program, &[7], fuel, &mut note);
+        assert_eq!(updates, vec![[F.to_vec(), f_after()]; count], "fuel {fuel}");
+    }
 }
 
 /// The worked program v1 := v0 + 5.
@@ -65,7 +103,7 @@ fn worked_sum() {
     let statement = assign(1, binary(Operator::Sum, variable(0), constant(5)));
     let program = Program { labels: vec![OPEN, labels(R0, R0)], statement };
     let found = run_on(&E, program, &[7, 0], 1_000_000);
-    assert_eq!((found.number, found.units, found.memory), (0, 1, vec![7, 12]));
+    assert_eq!(found, answer(0, 1, &E, &[7, 12]));
 }
 
 #[test]
@@ -86,9 +124,25 @@ fn values() {
         (Operator::Equal, 3, 3, 1),
         (Operator::Equal, 3, -3, 0),
     ] {
-        let expression: Expression = binary(operator, constant(left), constant(right));
-        assert_eq!(run::value(&expression, &[]), expected, "{operator:?} {left} {right}");
+        // Of constants and of variables, which an implementation may well treat apart.
+        for [one, other] in operands(left, right) {
+            let statement = assign(2, binary(operator, one, other));
+            let program = Program { labels: vec![OPEN; 3], statement };
+            let found = run_on(&E, program, &[left, right, 9], 1);
+            let shown = format!("{operator:?} {left} {right}");
+            assert_eq!(found, answer(0, 1, &E, &[left, right, expected]), "{shown}");
+        }
     }
+}
+
+/// Both operands as constants and as v0 and v1.
+fn operands(left: i32, right: i32) -> [[Expression; 2]; 4] {
+    [
+        [constant(left), constant(right)],
+        [constant(left), variable(1)],
+        [variable(0), constant(right)],
+        [variable(0), variable(1)],
+    ]
 }
 
 /// Each test of a while, each if and each skip is a unit; a block is none.
@@ -99,6 +153,27 @@ fn units_of_loops() {
     let program = Program { labels: vec![OPEN], statement: while_true(variable(0), body) };
     let run_with = |fuel| run_on(&E, program.clone(), &[3], fuel);
     // Four tests, three assignments, three ifs, two skips.
-    assert_eq!((run_with(12).number, run_with(12).units), (0, 12));
-    assert_eq!((run_with(11).number, run_with(11).units), (22, 11));
+    assert_eq!(run_with(12), answer(0, 12, &E, &[0]));
+    assert_eq!(run_with(11), answer(22, 11, &E, &[3]));
+}
+
+/// Without a variable memory is empty; a block of nothing spends nothing.
+#[test]
+fn no_variables() {
+    let program = |statement| Program { labels: vec![], statement };
+    assert_eq!(run_on(&E, program(skip()), &[], 1), answer(0, 1, &E, &[]));
+    assert_eq!(run_on(&E, program(block([])), &[], 1), answer(0, 0, &E, &[]));
+    assert_eq!(run_on(&E, program(skip()), &[0], 1), answer(20, 0, &E, &[0]));
+}
+
+/// 20 comes before 21, and both after the program's number.
+#[test]
+fn refused_before_a_run() {
+    let program = Program { labels: vec![OPEN], statement: skip() };
+    for fuel in [0, 1_000_001, u32::MAX] {
+        assert_eq!(run_on(&E, program.clone(), &[7], fuel), answer(21, 0, &E, &[7]));
+        assert_eq!(run_on(&E, program.clone(), &[7, 8], fuel), answer(20, 0, &E, &[7, 8]));
+    }
+    let outside = Program { labels: vec![OPEN], statement: touch(0) };
+    assert_eq!(run_on(&E, outside, &[7, 8], 0), answer(15, 0, &E, &[7, 8]));
 }

@@ -19,7 +19,9 @@ impl Writer<'_> {
     pub(super) fn rich(&mut self, place: &Place) -> Statement {
         let room = self.left - 4 - LEAST_UPDATE;
         let fits = |plan: &Plan| 2 * plan.list.len() + 4 * plan.known.len() <= room;
-        let rich = |plan: &Plan| !plan.known.is_empty() && plan.may.roles != 0 && fits(plan);
+        let live = self.live;
+        let asks = |plan: &Plan| !plan.known.is_empty() || live && !plan.list.is_empty();
+        let rich = |plan: &Plan| asks(plan) && plan.may.roles != 0 && fits(plan);
         let plan = (0..8).map(|_| self.plan(place)).find(rich);
         let plan = plan.unwrap_or_else(|| {
             let roles = 1 << self.rng.below(self.policy.rows.len());
@@ -45,7 +47,7 @@ impl Writer<'_> {
     }
 
     /// A block with an update, if one fits here, for whose least size there is room.
-    fn around_update(&mut self, place: &Place) -> Statement {
+    pub(super) fn around_update(&mut self, place: &Place) -> Statement {
         let inner = place.inner(|_| Join::EMPTY);
         let mut parts = Vec::new();
         if self.rng.below(3) == 0 && self.spend(1) {
@@ -69,7 +71,7 @@ impl Writer<'_> {
     pub(super) fn plan(&mut self, place: &Place) -> Plan {
         for _ in 0..4 {
             let list = self.list();
-            let known = match self.rng.below(3) {
+            let known = match self.rng.below(if self.live { 6 } else { 3 }) {
                 0 => list.clone(),
                 1 => list.iter().filter(|_| self.rng.below(2) == 0).copied().collect(),
                 _ => vec![],
@@ -103,15 +105,19 @@ impl Writer<'_> {
         let count = match self.rng.below(12) {
             0 => 0,
             1 => self.rng.below(usize::from(MOST_LISTED) + 1),
-            _ => 1 + self.rng.below(4),
+            _ => 1 + self.rng.below(if self.live { 7 } else { 4 }),
         };
         let chained = self.rng.below(2) == 0;
         let mut atom = self.atom();
         let mut list = Vec::new();
         for _ in 0..count {
             let first = if chained { atom } else { self.atom() };
-            atom = self.atom();
-            list.push(Query(first, atom));
+            let query = match self.live {
+                false => Query(first, self.atom()),
+                true => self.query_that_holds(first),
+            };
+            atom = query.1;
+            list.push(query);
         }
         list
     }

@@ -26,6 +26,21 @@ impl Framed {
         &self.all[self.own.clone()]
     }
 
+    #[allow(dead_code, reason = "not every test has a call that writes")]
+    pub fn bytes_mut(&mut self) -> &mut [u8] {
+        &mut self.all[self.own.clone()]
+    }
+
+    /// The file was written as it may be, and beside it nothing.
+    #[allow(dead_code, reason = "not every test has a call that writes")]
+    pub fn assert_changed_to(&self, expected: &[u8]) {
+        let (all, copy) = black_box((&self.all, &self.copy));
+        assert_eq!(&all[self.own.clone()], expected, "what the call left");
+        let beside = |bytes: &[u8]| [&bytes[..self.own.start], &bytes[self.own.end..]].concat();
+        assert_eq!(beside(all), beside(copy), "the call wrote beside its buffer");
+    }
+
+    #[allow(dead_code, reason = "not every test has a call that only reads")]
     pub fn assert_unchanged(&self) {
         // Hidden from the compiler, which may otherwise take a shared slice as never written.
         let (all, copy) = black_box((&self.all, &self.copy));

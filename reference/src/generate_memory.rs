@@ -1,0 +1,38 @@
+//! Random memories: of as many numbers as there are variables, and of wrong length.
+
+use crate::rng::Rng;
+use crate::run::call::bytes;
+
+/// The bytes of so many numbers, mostly small, so that conditions go both ways.
+pub fn memory(rng: &mut Rng, variables: usize) -> Vec<u8> {
+    let values: Vec<i32> = (0..variables).map(|_| value(rng)).collect();
+    bytes(&values)
+}
+
+pub fn value(rng: &mut Rng) -> i32 {
+    match rng.below(16) {
+        0 => rng.word() as i32,
+        1 => *rng.pick(&[i32::MIN, i32::MIN + 1, i32::MAX]),
+        2..5 => 0,
+        _ => rng.below(9) as i32 - 4,
+    }
+}
+
+/// The memory with some bytes more or less.
+pub fn wrong_memory(rng: &mut Rng, memory: &[u8]) -> Vec<u8> {
+    let length = memory.len();
+    let other = match rng.below(6) {
+        0 => length + 1,
+        1 => length + 4,
+        2 => length + 256,
+        3 => length + 1 + rng.below(300),
+        _ if length == 0 => 1 + rng.below(8),
+        4 => length - 1,
+        _ => rng.below(length),
+    };
+    let mut wrong = memory.to_vec();
+    let more = rng.bytes(other.saturating_sub(length));
+    wrong.truncate(other);
+    wrong.extend(more);
+    wrong
+}
