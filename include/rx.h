@@ -1,10 +1,12 @@
 /* The calls of the proved RX library. Every call takes every input: a pointer must point to as many bytes as the length
    beside it says (any pointer where the length is 0, a null pointer too), and a result pointer to a word that may be
-   written. No call writes to a policy or a program.
+   written. What a call may write overlaps nothing else that it is given. No call writes to a program; rx_run alone writes
+   to a policy and to a memory, and only where the run finishes.
 
    Threads: no call keeps anything between calls, so any number of threads may call at once, also on the same policy and
-   program. Stack: a thread that calls rx_policy or rx_meaning needs 32 KiB, one that calls rx_program, rx_place or
-   rx_transaction 128 KiB (measured on the deepest programs: 100 KB). */
+   program; a policy and a memory that rx_run is given are for that call alone. Stack: a thread that calls rx_policy or
+   rx_meaning needs 32 KiB, one that calls rx_program, rx_place or rx_transaction 128 KiB (measured on the deepest
+   programs: 100 KB), one that calls rx_run 128 KiB. */
 #ifndef RX_H
 #define RX_H
 
@@ -34,6 +36,15 @@ uint32_t rx_transaction(const uint8_t *policy, size_t policy_len, const uint8_t 
    where it is too long, and the first of them where bytes are left over. For 14 it is where the statement or expression
    that is too deep stands or would stand: the program's length where no byte is left for it. */
 uint32_t rx_place(const uint8_t *policy, size_t policy_len, const uint8_t *program, size_t program_len, size_t *place);
+
+/* Runs a program under a policy on a memory, which holds 4 bytes for each variable in their order, a signed number. The
+   number: 1 to 6 of the policy, else 10 to 18 of the program, else 20 where the memory is not 4 bytes for each variable,
+   else 21 where the fuel is 0 or over 1,000,000, else 22 where a unit was wanted with no fuel left, else 0: finished.
+   Only a finished run writes policy and memory, which then are as the run leaves them; with any other number every byte
+   is as it was. *units is what a finished run spent, with 22 the fuel, with any other number 0. Policy, program, memory
+   and *units must not overlap. */
+uint32_t rx_run(uint8_t *policy, size_t policy_len, const uint8_t *program, size_t program_len, uint8_t *memory,
+                size_t memory_len, uint32_t fuel, uint32_t *units);
 
 #ifdef __cplusplus
 }

@@ -3,6 +3,7 @@
 #include "rx.h"
 
 #include <stdio.h>
+#include <string.h>
 
 /* Policy E of the worked cases: role 0 means principal 0. */
 static const uint8_t policy[29] = {0x52, 0x58, 0x54, 0x01, 0x00, 0x02, 0x01, 0x00, 0x01, 0x03,
@@ -62,6 +63,47 @@ static void expect_of_empty(const uint8_t *empty) {
     expect("its length", length, 0);
 }
 
+/* A run on a copy of the policy and of this memory: its number and units, and what it leaves. The policy stays in each,
+   since none of these programs updates it. */
+static void expect_of_run(const char *what, const uint8_t *program, size_t program_len, const uint8_t *memory,
+                          size_t memory_len, uint32_t fuel, uint32_t number, uint32_t units, const uint8_t *left) {
+    uint8_t policy_after[sizeof policy], memory_after[16];
+    uint32_t spent = 99;
+
+    memcpy(policy_after, policy, sizeof policy);
+    memcpy(memory_after, memory, memory_len);
+    expect(what, rx_run(policy_after, sizeof policy, program, program_len, memory_after, memory_len, fuel, &spent), number);
+    expect("its units", spent, units);
+    expect("its policy", memcmp(policy_after, policy, sizeof policy) != 0, 0);
+    expect("its memory", memcmp(memory_after, left, memory_len) != 0, 0);
+}
+
+static void expect_of_runs(void) {
+    static const uint8_t memory[8] = {7}, sum[8] = {7, 0, 0, 0, 12};
+    uint8_t policy_after[sizeof policy];
+    uint32_t units = 99;
+
+    expect_of_run("run", accepted, sizeof accepted, memory, 8, 1000000, 0, 1, sum);
+    expect_of_run("run of a leak", leak, sizeof leak, memory, 8, 1000000, 17, 0, memory);
+    expect_of_run("run on seven bytes", accepted, sizeof accepted, memory, 7, 1000000, 20, 0, memory);
+    expect_of_run("run without fuel", accepted, sizeof accepted, memory, 8, 0, 21, 0, memory);
+    expect_of_run("run with too much fuel", accepted, sizeof accepted, memory, 8, 1000001, 21, 0, memory);
+    expect_of_run("run that is spent", transaction, sizeof transaction, memory, 0, 1, 22, 1, memory);
+    expect_of_run("run that is not", transaction, sizeof transaction, memory, 0, 2, 0, 2, memory);
+
+    /* Files of no bytes at null pointers: a policy, a program, and the memory of a program without variables. */
+    memcpy(policy_after, policy, sizeof policy);
+    expect("run under empty policy", rx_run(NULL, 0, accepted, sizeof accepted, NULL, 0, 1, &units), 1);
+    expect("its units", units, 0);
+    units = 99;
+    expect("run of empty program", rx_run(policy_after, sizeof policy, NULL, 0, NULL, 0, 1, &units), 10);
+    expect("its units", units, 0);
+    units = 99;
+    expect("run on empty memory",
+           rx_run(policy_after, sizeof policy, transaction, sizeof transaction, NULL, 0, 2, &units), 0);
+    expect("its units", units, 2);
+}
+
 int main(void) {
     uint32_t bits = 99;
     size_t place = 99, start = 99, length = 99;
@@ -91,6 +133,8 @@ int main(void) {
     expect("no transaction", rx_transaction(policy, sizeof policy, transaction, sizeof transaction, 1, &start, &length), 0);
     expect("no body's start", start, 0);
     expect("no body's length", length, 0);
+
+    expect_of_runs();
 
     return failures;
 }
