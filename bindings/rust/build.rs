@@ -5,7 +5,7 @@ use std::path::Path;
 
 fn main() {
     let package = env::var("CARGO_MANIFEST_DIR").expect("cargo names the package's folder");
-    let folder = Path::new(&package).join("../target/staticlib");
+    let folder = Path::new(&package).join("../../target/staticlib");
     let archive = folder.join("librx.a");
     println!("cargo:rerun-if-changed={}", archive.display());
     assert!(
