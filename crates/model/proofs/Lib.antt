@@ -42,3 +42,5 @@ pub mod Demand3
 pub mod Examples
 pub mod Machine
 pub mod Compile
+pub mod Text
+pub mod Cut

@@ -18,5 +18,6 @@ pub mod Run
 pub mod Spent
 pub mod Calls
 pub mod Claim
+pub mod Text
 pub mod Machine
 pub mod Compile
