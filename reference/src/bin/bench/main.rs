@@ -1,7 +1,7 @@
 //! `cargo run --release --bin bench`: the proved library and an unproved opponent side by side, in
 //! nanoseconds of processor time a call, on policies of 64 roles and 32 principals and on the smallest
-//! with a role, and on programs of 4,096 bytes under such a policy and on the smallest. The opponent
-//! is the reference; on programs, with the order made for speed.
+//! with a role, on programs of 4,096 bytes under such a policy and on the smallest, and on runs. The
+//! opponent is the reference; on programs, with the order made for speed.
 
 use std::fmt::Debug;
 use std::hint::black_box;
@@ -14,6 +14,7 @@ use reference::{policy, proved};
 
 mod clock;
 mod programs;
+mod runs;
 
 /// Each line is the pair of batches with the median ratio. A busy machine slows both of a pair
 /// alike; the best of each side would come from different moments, and erred by a fifth.
@@ -25,7 +26,7 @@ fn main() {
     // The system's allocator takes a large block given back as a sign to keep memory: otherwise the
     // unproved side would pay, in each call, for memory that the call before gave back.
     drop(black_box(vec![1_u8; 1 << 20]));
-    let worst = policies().max(programs::programs());
+    let worst = policies().max(programs::programs()).max(runs::runs());
     println!("worst ratio {worst:.2}");
 }
 
@@ -58,7 +59,7 @@ fn policies() -> f64 {
 }
 
 fn print_head(files: &str) {
-    println!("{files:33} {:14} {:>10} {:>13} {:>6}", "call", "proved", "unproved", "ratio");
+    println!("{files:33} {:14} {:>13} {:>13} {:>6}", "call", "proved", "unproved", "ratio");
 }
 
 /// One principal, one role, its owner the only member.
@@ -81,7 +82,7 @@ fn compare<T: Debug + PartialEq>(
     pairs.sort_by(|one, other| one.ratio().total_cmp(&other.ratio()));
     let median = &pairs[BATCHES / 2];
     let ratio = median.ratio();
-    println!("{line:48} {:7.0} ns {:10.0} ns {ratio:6.2}", median.proved, median.unproved);
+    println!("{line:48} {:10.0} ns {:10.0} ns {ratio:6.2}", median.proved, median.unproved);
     ratio
 }
 
