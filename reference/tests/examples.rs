@@ -4,11 +4,9 @@
 use std::fs;
 use std::path::{Path, PathBuf};
 
-use reference::policy::{self, Policy};
-use reference::{flow, number, proved, proved_program, run};
-
-/// What the delivered program takes.
-const FUEL: u32 = 1_000_000;
+use reference::rules::Rules;
+use reference::run::call::{call_by, values, Answer, MOST_FUEL};
+use reference::{flow, number, policy, proved, proved_program};
 
 /// The files of an example, each with the text that it is made from.
 const FILES: [(&str, &str); 3] =
@@ -18,14 +16,6 @@ struct Example {
     policy: Vec<u8>,
     program: Vec<u8>,
     memory: Vec<u8>,
-}
-
-/// A run's end as a caller has it.
-struct End {
-    number: u32,
-    units: u32,
-    policy: Vec<u8>,
-    memory: Vec<i32>,
 }
 
 /// The folder of all examples.
@@ -56,10 +46,6 @@ fn bytes(text: &str) -> Vec<u8> {
     parts.flat_map(str::split_whitespace).map(byte).collect()
 }
 
-fn numbers(memory: &[u8]) -> Vec<i32> {
-    memory.chunks_exact(4).map(|four| i32::from_le_bytes(four.try_into().unwrap())).collect()
-}
-
 impl Example {
     fn read(folder: &Path) -> Example {
         let [policy, program, memory] = FILES.map(|(name, _)| file(folder.join(name)));
@@ -70,37 +56,25 @@ impl Example {
         Example::read(&examples().join(name))
     }
 
-    fn refused(&self, number: u32) -> End {
-        End { number, units: 0, policy: self.policy.clone(), memory: numbers(&self.memory) }
+    /// The run with the fuel that the delivered program takes.
+    fn run_by_reference(&self) -> Answer {
+        call_by(&Rules::default(), &self.policy, &self.program, &self.memory, MOST_FUEL).0
     }
 
-    fn run_by_reference(&self) -> End {
-        let program = match flow::accepted(&self.policy, &self.program) {
-            Ok(program) => program,
-            Err(refusal) => return self.refused(refusal.number),
-        };
-        if self.memory.len() != 4 * program.labels.len() {
-            return self.refused(20);
-        }
-        let policy = Policy::read(&self.policy).expect("the program is accepted under it");
-        let end = run::run(&policy, &program, &numbers(&self.memory), FUEL);
-        let policy = reference::generate::encode(&end.policy);
-        End { number: end.number, units: end.units, policy, memory: end.memory }
-    }
-
-    fn run_by_library(&self) -> End {
+    fn run_by_library(&self) -> Answer {
         let (mut policy, mut memory) = (self.policy.clone(), self.memory.clone());
-        let (number, units) = proved_program::run(&mut policy, &self.program, &mut memory, FUEL);
-        End { number, units, policy, memory: numbers(&memory) }
+        let (number, units) =
+            proved_program::run(&mut policy, &self.program, &mut memory, MOST_FUEL);
+        Answer { number, units, policy, memory }
     }
 }
 
 /// The lines that the delivered program prints.
-fn printed(end: &End) -> String {
+fn printed(end: &Answer) -> String {
     let mut lines = format!("answer {}\n", end.number);
     if end.number == number::ACCEPTED {
         lines += &format!("used {}\n", end.units);
-        for (variable, value) in end.memory.iter().enumerate() {
+        for (variable, value) in values(&end.memory).iter().enumerate() {
             lines += &format!("v{variable} {value}\n");
         }
     }

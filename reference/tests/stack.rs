@@ -7,8 +7,10 @@ use reference::generate;
 use reference::policy::{Policy, Row};
 use reference::proved;
 use reference::proved_program;
+use reference::run::call::MOST_FUEL;
 
-/// What `include/rx.h` states: for the calls about a program, and for those about a policy.
+/// What `include/rx.h` states: for the calls about a program, the run among them, and for those about
+/// a policy.
 const PROGRAM_STACK: usize = 128 * 1024;
 const POLICY_STACK: usize = 32 * 1024;
 
@@ -38,9 +40,14 @@ fn assignment() -> Vec<u8> {
     bytes
 }
 
-/// A transaction that lists 16 queries, 30 queries nested in it, and an assignment at depth 32. The
+/// An update that puts principal 0 into role 1: role 0 means nobody, so a query listed first fails.
+fn update() -> Vec<u8> {
+    vec![0x06, 1, 0x00, 1, 0]
+}
+
+/// A transaction that lists 16 queries, 30 queries nested in it, and a statement at depth 32. The
 /// first 16 of the nested queries are different, or all are the same.
-fn nested_queries(different: bool) -> Vec<u8> {
+fn nested_queries(different: bool, inner: &[u8]) -> Vec<u8> {
     let mut bytes = head();
     bytes.extend([0x07, 16]);
     bytes.extend((0..16).flat_map(|role| [role, role + 1]));
@@ -48,7 +55,7 @@ fn nested_queries(different: bool) -> Vec<u8> {
         let role = if different { level % 16 } else { 0 };
         bytes.extend([0x05, role, role + 1]);
     }
-    bytes.extend(assignment());
+    bytes.extend(inner);
     bytes.extend([0x00; 30]);
     bytes
 }
@@ -73,8 +80,8 @@ fn within<T: Send + 'static>(stack: usize, program: &[u8], call: fn(&[u8], &[u8]
 fn programs() {
     let body = (42, 30 * 3 + 49 + 30);
     let cases = [
-        ("different queries", nested_queries(true), body),
-        ("the same query", nested_queries(false), body),
+        ("different queries", nested_queries(true, &assignment()), body),
+        ("the same query", nested_queries(false, &assignment()), body),
         ("blocks", nested(&[0x02, 1], &[]), (0, 0)),
         ("ifs", nested(&[0x03, 0x01, 0], &[0x00]), (0, 0)),
         ("whiles", nested(&[0x04, 0x01, 0], &[]), (0, 0)),
@@ -86,6 +93,28 @@ fn programs() {
         assert_eq!(verdict, (0, 0), "{what}");
         let first = |policy: &[u8], program: &[u8]| proved_program::transaction(policy, program, 0);
         assert_eq!(within(PROGRAM_STACK, &program, first), (0, body), "{what}");
+    }
+}
+
+/// Each run begins with v0 = 1. A transaction that was rolled back begins again, asks its first query
+/// and skips. The whiles end when v0, 16 times as much each turn, is 0 after 8.
+#[test]
+fn runs() {
+    let cases = [
+        ("different queries", nested_queries(true, &assignment()), 1 + 30 + 1),
+        ("the same query", nested_queries(false, &assignment()), 1 + 30 + 1),
+        ("rolled back, different queries", nested_queries(true, &update()), 1 + 30 + 1 + 3),
+        ("rolled back, the same query", nested_queries(false, &update()), 1 + 30 + 1 + 3),
+        ("blocks", nested(&[0x02, 1], &[]), 1),
+        ("ifs", nested(&[0x03, 0x01, 0], &[0x00]), 31 + 1),
+        ("whiles", nested(&[0x04, 0x01, 0], &[]), 31 + 8 + 8 + 30),
+    ];
+    let run = |policy: &[u8], program: &[u8]| {
+        let (mut policy, mut memory) = (policy.to_vec(), [1, 0, 0, 0]);
+        proved_program::run(&mut policy, program, &mut memory, MOST_FUEL)
+    };
+    for (what, program, units) in cases {
+        assert_eq!(within(PROGRAM_STACK, &program, run), (0, units), "{what}");
     }
 }
 
