@@ -71,12 +71,7 @@ impl Folder {
     }
 
     fn assert_prints(&self, text: &str) {
-        let (status, printed, said) = rx(Path::new("/"), &[&self.0]);
-        assert_eq!(
-            (printed.as_str(), status),
-            (text, i32::from(!text.starts_with("answer 0\n"))),
-            "{said}"
-        );
+        assert_printed(text, rx(Path::new("/"), &[&self.0]));
     }
 
     fn assert_answers(&self, number: u32) {
@@ -97,6 +92,11 @@ fn rx(from: &Path, arguments: &[&Path]) -> (i32, String, String) {
     let output = command.args(arguments).current_dir(from).output().expect("rx can be started");
     let text = |bytes: Vec<u8>| String::from_utf8(bytes).expect("rx writes text");
     (output.status.code().expect("rx ends by itself"), text(output.stdout), text(output.stderr))
+}
+
+fn assert_printed(text: &str, (status, printed, said): (i32, String, String)) {
+    let expected = (text, i32::from(!text.starts_with("answer 0\n")));
+    assert_eq!((printed.as_str(), status), expected, "{said}");
 }
 
 /// A program with this many variables for everyone.
@@ -178,17 +178,23 @@ fn a_file_that_comes_in_pieces_is_read_whole() {
     let pipe = folder.0.join("policy.rxt");
     let made = Command::new("mkfifo").arg(&pipe).status().expect("mkfifo can be started");
     assert!(made.success());
-    thread::scope(|scope| {
+    let end = thread::scope(|scope| {
         scope.spawn(|| {
-            let mut end =
-                File::options().write(true).open(&pipe).expect("the program opens it too");
+            let mut end = File::options().write(true).open(&pipe).expect("the pipe is there");
             for piece in E.chunks(10) {
-                end.write_all(piece).expect("the program reads on");
+                // A program that does not read on is found by what it prints.
+                if end.write_all(piece).is_err() {
+                    return;
+                }
                 thread::sleep(Duration::from_millis(20));
             }
         });
-        folder.assert_prints(FIRST_TEXT);
+        let end = rx(Path::new("/"), &[&folder.0]);
+        // Where no program came to read the pipe, this lets the writer go on.
+        File::options().read(true).write(true).open(&pipe).expect("the pipe is there");
+        end
     });
+    assert_printed(FIRST_TEXT, end);
 }
 
 #[test]
