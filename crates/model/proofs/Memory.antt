@@ -1,10 +1,10 @@
 -- A memory by its values: four bytes at the front move every later value by one place, so each law goes by the values from the first on.
 use Prim.Native.Nat.{ℕ, zero, suc, _+_, _*_, _/_, _%_, _^_, _<_, _≤_}
 use native.Mathlib.Omega.{arith}
-use mathlib.Core.Path.{_≡_, refl, sym, _∙_}
+use mathlib.Core.Path.{_≡_, refl, _∙_}
 use mathlib.Core.List.{List, [], _∷_}
 use lib.ListN.{length, getD, set, take}
-use lib.Seq.{length-take-le, take-length, take-set-lt, getD-take}
+use lib.Seq.{length-take-le, take-set-lt, getD-take}
 use Rattle.model.specs.Bytes.{byte, word, put}
 use Rattle.model.specs.Meaning.{column}
 use Rattle.model.specs.Value.{valueAt, setValue}
@@ -142,6 +142,3 @@ stored-first (v ∷ w) (a ∷ b ∷ []) (suc n) l e low = absurd (omega arith)
 stored-first (v ∷ w) (a ∷ b ∷ c ∷ []) (suc n) l e low = absurd (omega arith)
 stored-first (v ∷ w) (a ∷ b ∷ c ∷ d ∷ to) (suc n) l e low =
     stored-behind v a b c d w to n (low 0 (omega arith)) ∙ rw (stored-first w to n (omega arith) (omega arith) (λ i k. low (suc i) (omega arith)))
-
-pub stored-all : (vs to : List ℕ) → length to ≡ 4 * length vs → AllBelow (2 ^ 32) vs → stored vs to (length vs) ≡ memoryOf vs
-stored-all vs to e low = stored-first vs to (length vs) (omega arith) e low ∙ rw (take-length vs)

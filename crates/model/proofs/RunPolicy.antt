@@ -119,7 +119,7 @@ module _ {R : List ℕ → List ℕ → Type 0} (steps : Steps R) where
   goes (transaction at start end qs a) h listed f s m = attempt-goes (λ f₁ s₁ m₁. goes a h qs f₁ s₁ m₁) _ f s m
 
   -- mutations that each go along R do so together
-  pub mutate-all-goes : (ms : List Mutation) → Each (λ k. (s : List ℕ) → R s (mutate s (k .kind) (k .role) (k .operand))) ms → (s : List ℕ) → R s (mutateAll s ms)
+  mutate-all-goes : (ms : List Mutation) → Each (λ k. (s : List ℕ) → R s (mutate s (k .kind) (k .role) (k .operand))) ms → (s : List ℕ) → R s (mutateAll s ms)
   unfolding mutateAll
   mutate-all-goes [] h s = steps .stay s
   mutate-all-goes (k ∷ ms) h s = steps .chain (h k (List·Memᴰ·head refl) s) (mutate-all-goes ms (λ j i. h j (List·Memᴰ·tail i)) _)
@@ -222,7 +222,7 @@ module _ (s : List ℕ) where
   fine-steps = record { stay = λ a h. h; chain = λ {s} {t} {u} g h k. h (g k) }
 
   -- a mutation that s allows does, since what is allowed depends on the fixed part only
-  pub mutate-fine : {rs : ℕ} {k : Mutation} → Mutates s rs k → (a : List ℕ) → KeepsFine a (mutate a (k .kind) (k .role) (k .operand))
+  mutate-fine : {rs : ℕ} {k : Mutation} → Mutates s rs k → (a : List ℕ) → KeepsFine a (mutate a (k .kind) (k .role) (k .operand))
   mutate-fine h a (ok, e) = (mutates-accepted h e ok, mutates-fixed h e)
 
   module _ (good : Accepted s) (p : List ℕ) where
