@@ -1,13 +1,16 @@
 // The public face: the calls of document 01 for C and Rust, declared in include/rx.h. Each takes every input.
-// Rattle callers have policy::check::policy_number, policy::meaning::meaning_of, flow::verdict::program_verdict and
-// transaction_body below, of which these are the exports.
+// Rattle callers have policy::check::policy_number, policy::meaning::meaning_of, flow::verdict::program_verdict,
+// run::run::run and transaction_body below, of which these are the exports. What no export can say stands last: that two runs
+// leak nothing (`two_runs`).
 ghost use mathlib.Core.Path.{_≡_};
 ghost use Rattle.model.specs.Number.{numberOf};
 ghost use Rattle.model.specs.Policy.{policyNumber};
 ghost use Rattle.model.specs.Meaning.{answer, meaningOf};
 ghost use Rattle.model.specs.Flow.{programVerdict, transactionPart};
-ghost use Rattle.model.specs.Calls.{located, placeAnswer, body, transactionAnswer, partBytes};
+ghost use Rattle.model.specs.Calls.{located, placeAnswer, body, transactionAnswer, partBytes, ended, runAnswer};
+ghost use Rattle.model.specs.Claim.{Claim};
 use flow::verdict::Verdict;
+use run::run::Answer;
 use shared::number;
 
 // The number 0 to 6 of any bytes as a policy.
@@ -95,4 +98,45 @@ pub fn transaction_body<'a>(policy: &[u8], program: &'a [u8], k: usize) -> &'a [
     };
     let span = gathered::span::body_span(policy, program, k);
     gathered::span::part_of(program, span.start, span.size)
+}
+
+// A run: the number 0, 1 to 6, 10 to 18, 20, 21 or 22, and in `units` the units. Policy and memory are written by 0 alone.
+#[no_mangle]
+pub extern "C" fn rx_run(
+    policy: &mut [u8],
+    program: &[u8],
+    memory: &mut [u8],
+    fuel: u32,
+    units: &mut u32,
+) -> u32
+    ensures { λ r. ⌜ ended r (now (units .exit)) (now (policy .exit)) (now (memory .exit)) ≡ runAnswer (now (policy .entry)) (now (program .entry)) (now (memory .entry)) fuel ⌝ }
+{
+    let answer = run::run::run(policy, program, memory, fuel);
+    *units = answer.units;
+    answer.number
+}
+
+// What two runs of one program give.
+pub struct Answers {
+    pub first: Answer,
+    pub second: Answer,
+}
+
+// Two runs of one program, each with its own policy, memory and fuel. Demand 3 is what this function ensures: `Claim` says of
+// the buffers at entry and at exit and of the two answers that nothing hidden from a group of principals shows in the other
+// run's end.
+pub fn two_runs(
+    program: &[u8],
+    policy1: &mut [u8],
+    memory1: &mut [u8],
+    fuel1: u32,
+    policy2: &mut [u8],
+    memory2: &mut [u8],
+    fuel2: u32,
+) -> Answers
+    ensures { λ r. ⌜ Claim (now (program .entry)) (now (policy1 .entry)) (now (policy2 .entry)) (now (memory1 .entry)) (now (memory2 .entry)) fuel1 fuel2 (ended (r .first .number) (r .first .units) (now (policy1 .exit)) (now (memory1 .exit))) (ended (r .second .number) (r .second .units) (now (policy2 .exit)) (now (memory2 .exit))) ⌝ }
+{
+    let first = run::run::run(policy1, program, memory1, fuel1);
+    let second = run::run::run(policy2, program, memory2, fuel2);
+    Answers { first, second }
 }

@@ -1,0 +1,6 @@
+mod MemoryLaws
+mod Running
+mod TurnLaws
+mod OperatorLaws
+mod StopLaws
+mod RunLaws

@@ -1,0 +1,16 @@
+use Rattle.run.proofs.RunLaws.{executing}
+use borrow.Author.Needs.{needs}
+use Rattle.run.proofs.run.execute.Statement.{statement}
+use Rattle.run.proofs.run.execute.Tie as tie
+
+pub execute-spec : {M : Type 1} → statement M
+execute-spec =
+    tie.close
+    (tie.spec
+    (λ c κs. search (needs, executing))
+    (λ c κs. search (needs, executing))
+    (λ c. search (needs, executing))
+    (λ c. search (needs, executing))
+    (λ c. search (needs, executing))
+    (λ c. search (needs, executing))
+    (λ c. search (needs, executing)))
