@@ -32,7 +32,7 @@
 //! ```
 //!
 //! Any number of threads may call at once. A thread needs 32 KiB of stack for [`policy()`] and
-//! [`meaning()`], 128 KiB for the others.
+//! [`meaning()`], 192 KiB for [`run()`], 128 KiB for the others.
 
 #![no_std]
 #![deny(missing_docs, unsafe_code, unsafe_op_in_unsafe_fn)]
