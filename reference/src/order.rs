@@ -7,10 +7,6 @@ use crate::policy::{bits, lies_in, Policy};
 use crate::program::{Atom, Query};
 use crate::rules::Rules;
 
-mod incremental;
-
-pub use incremental::Incremental;
-
 /// 64 roles, their viewers, their trusters, and everyone.
 pub const ATOMS: usize = 193;
 

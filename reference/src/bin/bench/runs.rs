@@ -1,88 +1,100 @@
-//! The bench's lines on runs.
+//! The rows on runs of a million units or nearly, and on the smallest.
 
 use std::hint::black_box;
+use std::ptr::{read_volatile, write_volatile};
 
-use reference::encode::encode as encode_program;
-use reference::generate::encode;
-use reference::policy::{Policy, Row, MOST_PRINCIPALS, MOST_ROLES};
-use reference::program::{
-    Atom, Expression, Kind, Operator, Program, Query, Statement, MOST_LISTED,
-};
-use reference::run::call::{bytes, Answer, MOST_FUEL};
+use reference::generate::{chain_onward, dense};
+use reference::policy::Policy;
+use reference::program::{Atom, Expression, Kind, Operator, Query, Statement};
 use reference::shapes::*;
-use reference::{opponent, proved_program};
 
-use crate::{compare, minimal, print_head};
+use crate::calls::Input;
+use crate::making::*;
+use crate::measure::{Reading, Times};
+use crate::table::{Table, NATIVE_BAR, RUN_BAR, SMALLEST_RUN_BAR};
 
-/// The role that each listed query asks for, and one that no query is about.
-const ASKED: u8 = MOST_ROLES - 1;
-const OTHER: u8 = 40;
-
-/// Prints the lines on runs, each of which includes reading and checking policy and program; gives the
-/// worst ratio. Each run finishes, with its units as the name says or as its comment does.
-pub fn runs() -> f64 {
-    let runs = [
-        ("smallest", minimal(), vec![], skip(), 1),
-        ("arithmetic, 1,000,000 units", policy(), vec![0; 4], arithmetic(), MOST_FUEL),
-        ("queries, 952,002 units", policy(), vec![0; 4], queries(), 952_002),
-        ("updates, 16 queries listed, 200", policy(), vec![0; 4], updates(), 402),
-        ("rollback each turn, 100", policy(), vec![0; 4], rollbacks(), 1_001),
-    ];
-    print_head("run");
-    let mut worst: f64 = 0.0;
-    for (name, policy, memory, statement, units) in runs {
-        let mut tree = Program { labels: vec![OPEN; memory.len()], statement };
-        let program = &encode_program(&mut tree).bytes;
-        let (policy, memory) = (&encode(&policy), &bytes(&memory));
-        let end = proved(policy, program, memory);
-        assert_eq!((end.number, end.units), (0, units), "{name}");
-        worst = worst.max(compare(
-            &format!("{name:33} rx_run"),
-            || proved(black_box(policy), black_box(program), black_box(memory)),
-            || {
-                let [policy, program, memory] = black_box([policy, program, memory]);
-                opponent::run(policy, program, memory, MOST_FUEL)
-            },
-        ));
+pub fn rows(table: &mut Table) {
+    table.head("runs");
+    let native = native(table);
+    for (name, input, units) in runs() {
+        let name = format!("run: {name}");
+        if !table.wants(&name) {
+            continue;
+        }
+        let library = table.run(&name, &input, (0, units), RUN_BAR);
+        if name.contains("arithmetic") {
+            if let Some(native) = native {
+                let what = format!("{library:.2} and {native:.2} ns a unit");
+                table.against(
+                    &format!("{name}, against native"),
+                    &what,
+                    library / native,
+                    NATIVE_BAR,
+                );
+            }
+        }
     }
-    worst
+    let name = "run: smallest, as a whole call";
+    if table.wants(name) {
+        table.run(name, &input(&minimal(), &[], skip()), (0, 1), SMALLEST_RUN_BAR);
+    }
 }
 
-/// The library's run, on copies of policy and memory.
-fn proved(policy: &[u8], program: &[u8], memory: &[u8]) -> Answer {
-    let (mut policy, mut memory) = (policy.to_vec(), memory.to_vec());
-    let (number, units) = proved_program::run(&mut policy, program, &mut memory, MOST_FUEL);
-    Answer { number, units, policy, memory }
+/// The units of the native loop: each turn is a test and an assignment.
+const NATIVE_UNITS: u32 = 1_000_000;
+
+/// For scale: the machine's own loop of an addition and a comparison in memory; gives its time of a
+/// unit.
+fn native(table: &Table) -> Option<f64> {
+    if !table.wants("run: arithmetic") && !table.wants("run: native loop") {
+        return None;
+    }
+    let times = Times::of(&mut [&mut Reading(|| native_loop(Box::new([0, NATIVE_UNITS / 2])))]);
+    let unit = times.median(|round| round[0]) / f64::from(NATIVE_UNITS);
+    println!("{:58} {unit:9.2} ns a unit", "run: native loop, for scale");
+    Some(unit)
 }
 
-/// As many roles as there may be, viewed and trusted by all principals. The last has a member, and the
-/// first 16 take it in.
-fn policy() -> Policy {
-    let row = |role: u8| Row {
-        owner: 0,
-        name: role + 1,
-        viewers: u32::MAX,
-        trusters: u32::MAX,
-        members: u32::from(role == ASKED),
-        takes: if role < MOST_LISTED { 1 << ASKED } else { 0 },
-    };
-    Policy { principals: MOST_PRINCIPALS, rows: (0..MOST_ROLES).map(row).collect() }
+fn native_loop(mut memory: Box<[u32; 2]>) -> Box<[u32; 2]> {
+    let [count, limit] = black_box(&mut *memory);
+    // SAFETY: both point to the memory; the compiler may not keep them in registers.
+    unsafe {
+        while read_volatile(count) < read_volatile(limit) {
+            write_volatile(count, read_volatile(count) + 1);
+        }
+    }
+    memory
 }
 
-/// 16 queries that hold.
-fn list() -> impl Iterator<Item = Query> {
-    (0..MOST_LISTED).map(|role| Query(Atom::Role(role), Atom::Role(ASKED)))
-}
-
-fn plus(left: Expression, right: Expression) -> Expression {
-    binary(Operator::Sum, left, right)
-}
-
-/// So many turns, counted in v0: a unit to test, one to count, and one test at the end.
-fn turns(count: i32, parts: impl IntoIterator<Item = Statement>) -> Statement {
-    let condition = binary(Operator::Less, variable(0), constant(count));
-    let counted = assign(0, plus(variable(0), constant(1)));
-    while_true(condition, block(parts.into_iter().chain([counted])))
+/// Runs that finish, with their units.
+fn runs() -> Vec<(&'static str, Input, u32)> {
+    let one = || minimal();
+    let plain = |memory: &[i32], statement| input(&one(), memory, statement);
+    let pairs: Vec<Query> =
+        (0..16).map(|index| Query(Atom::Role(4 * index), Atom::Role(4 * index + 1))).collect();
+    vec![
+        ("arithmetic loop", plain(&[0; 2], arithmetic()), 1_000_000),
+        ("nested loops with ifs", plain(&[0; 3], nested_loops()), 962_401),
+        ("loop of one assignment", plain(&[0, 499_999], one_assignment()), 999_999),
+        ("expressions of 3 operators", plain(&[0, 1, 3], expressions(even(2))), 1_000_000),
+        ("expressions of 7 operators", plain(&[0, 1, 3], expressions(even(3))), 1_000_000),
+        ("expressions of 15 operators", plain(&[0, 1, 3], expressions(even(4))), 1_000_000),
+        (
+            "expressions of 15 operators, in line",
+            plain(&[0, 1, 3], expressions(line(15))),
+            1_000_000,
+        ),
+        ("quotients", plain(&[0, 1, 3], quotients()), 1_000_000),
+        ("queries, 1 role", input(&one(), &[0], queries(28_000, &about_one_role())), 952_002),
+        (
+            "queries, 64 roles in a chain",
+            input(&chain_onward(), &[0], queries(28_000, &pairs)),
+            952_002,
+        ),
+        ("queries, 64 roles, dense", input(&dense(), &[0], queries(28_000, &pairs)), 952_002),
+        ("rollback every turn, 3 variables", input(&two(), &[0; 3], rollbacks(83_000)), 996_001),
+        ("rollback every turn, 64 variables", input(&two(), &[0; 64], rollbacks(83_000)), 996_001),
+    ]
 }
 
 /// Three units a turn.
@@ -91,22 +103,65 @@ fn arithmetic() -> Statement {
     turns(333_333, [assign(1, plus(product, variable(0)))])
 }
 
-/// In one transaction 28,000 turns of 34 units: 16 queries, each with its branch.
-fn queries() -> Statement {
-    transaction(list(), turns(28_000, list().map(|query| ask(query, skip(), skip()))))
+/// 400 turns, each with 600 of a test, an if, an assignment and one to count.
+fn nested_loops() -> Statement {
+    let small = less(variable(1), constant(300));
+    let added = assign(2, plus(variable(2), variable(1)));
+    let taken = assign(2, binary(Operator::Difference, variable(2), constant(1)));
+    let counted = assign(1, plus(variable(1), constant(1)));
+    let inner = while_true(
+        less(variable(1), constant(600)),
+        block([if_else(small, added, taken), counted]),
+    );
+    turns(400, [assign(1, constant(0)), inner, if_else(variable(2), skip(), skip())])
 }
 
-/// In one transaction 100 turns of two updates, by which no listed query fails.
-fn updates() -> Statement {
-    let in_and_out = [Kind::AddMember, Kind::DeleteMember];
-    transaction(list(), turns(100, in_and_out.map(|kind| update([mutation(kind, OTHER, 1)]))))
+fn one_assignment() -> Statement {
+    while_true(less(variable(0), variable(1)), assign(0, plus(variable(0), constant(1))))
 }
 
-/// A turn's first transaction asks whether a listed query holds and makes it fail, and is rolled back:
-/// five units, and two when it begins again. The other makes the query hold, by two.
-fn rollbacks() -> Statement {
-    let taken = |kind| update([mutation(kind, 0, ASKED)]);
-    let query = Query(Atom::Role(0), Atom::Role(ASKED));
-    let broken = transaction(list(), ask(query, taken(Kind::DeleteTaken), skip()));
-    turns(100, [broken, transaction([], taken(Kind::AddTaken))])
+/// Three units a turn.
+fn expressions(expression: Expression) -> Statement {
+    turns(333_333, [assign(1, expression)])
+}
+
+const OPERATORS: [Operator; 5] =
+    [Operator::Sum, Operator::Difference, Operator::Product, Operator::Less, Operator::Equal];
+
+/// An operator of operators, to a depth.
+fn even(depth: u8) -> Expression {
+    match depth {
+        0 => variable(1),
+        1 => plus(variable(2), variable(0)),
+        _ => binary(OPERATORS[usize::from(depth) % 3], even(depth - 1), even(depth - 1)),
+    }
+}
+
+/// So many operators, each on the right of the one before.
+fn line(operators: usize) -> Expression {
+    (0..operators).fold(variable(0), |right, index| {
+        binary(OPERATORS[index % 5], variable((index % 3) as u8), right)
+    })
+}
+
+/// Three units a turn.
+fn quotients() -> Statement {
+    turns(333_333, [assign(1, binary(Operator::Quotient, variable(0), variable(2)))])
+}
+
+/// Two roles, of which the first takes in the second, which has a member.
+fn two() -> Policy {
+    open(2, |role| if role == 0 { 2 } else { 0 })
+}
+
+/// A turn's first transaction writes a variable, asks whether a listed query holds and makes it fail, and
+/// is rolled back: four units, and four when it begins again; the other makes the query hold, by two.
+/// With the loop's two that is twelve.
+fn rollbacks(count: i32) -> Statement {
+    let taken = |kind| update([mutation(kind, 0, 1)]);
+    let query = Query(Atom::Role(0), Atom::Role(1));
+    let asked = ask(query, taken(Kind::DeleteTaken), skip());
+    let written = assign(1, plus(variable(1), constant(1)));
+    let broken = transaction([query], block([written, asked]));
+    turns(count, [broken, transaction([], taken(Kind::AddTaken))])
 }

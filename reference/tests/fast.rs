@@ -1,0 +1,337 @@
+//! The bench's opponent gives the reference's answers: on policies, on programs with their places and
+//! transactions' bodies, and on whole runs.
+
+mod common {
+    pub mod framed;
+    pub mod seeds;
+}
+
+use common::framed::Framed;
+use common::seeds::with_both_seeds;
+use reference::damage::{one_row_fault, two_row_faults, FILE_FAULTS, ROW_FAULTS};
+use reference::damage_program::{
+    ends_early, left_over, over_length, too_deep_expression, too_deep_statement, wrong_part, PARTS,
+};
+use reference::encode::encode;
+use reference::generate::{
+    self, chain_back, chain_onward, circle, dense, encode as encode_policy, valid, valid_of_size,
+};
+use reference::generate_memory::{memory, wrong_memory};
+use reference::generate_program::{any, live, rich, with_fault, Case};
+use reference::generate_rules::{chain_of_queries, written_elsewhere};
+use reference::loosen::{loosened, noise};
+use reference::program::{Form, Kind, Program, Statement};
+use reference::rng::Rng;
+use reference::rules::Rules;
+use reference::run::call::{call_by, MOST_FUEL};
+use reference::shapes::{mutation, update};
+use reference::writer::FAULTS;
+use reference::{fast, flow, largest, policy};
+
+const POLICIES: usize = 6_000;
+const VERDICTS: usize = 600;
+const RUNS: usize = 2_500;
+/// What a run gets that is only to be seen to end.
+const PLENTY: u32 = 3_000;
+
+#[test]
+fn fast_agrees_on_policies() {
+    for counts in with_both_seeds(|mut rng| {
+        let mut counts = [0; 8];
+        for policy in [chain_onward(), chain_back(), circle(), dense()] {
+            check_policy(&encode_policy(&policy), &mut counts);
+        }
+        for _ in 0..POLICIES {
+            check_policy(&encode_policy(&valid(&mut rng)), &mut counts);
+            check_policy(&generate::noise(&mut rng), &mut counts);
+        }
+        for _ in 0..POLICIES / 100 {
+            check_policy(&encode_policy(&valid_of_size(&mut rng, 32, 64)), &mut counts);
+            check_policy(&encode_policy(&all_different(&mut rng)), &mut counts);
+        }
+        for _ in 0..POLICIES / 20 {
+            for (_, _, make) in &FILE_FAULTS {
+                check_policy(&make(&mut rng), &mut counts);
+            }
+            for fault in &ROW_FAULTS {
+                check_policy(&one_row_fault(&mut rng, fault), &mut counts);
+            }
+            check_policy(&two_row_faults(&mut rng).1, &mut counts);
+        }
+        counts
+    }) {
+        println!("{counts:?}");
+        assert!(counts.iter().all(|count| *count > 200), "{counts:?}");
+    }
+}
+
+/// Each of 64 roles a class of its own.
+fn all_different(rng: &mut Rng) -> policy::Policy {
+    let mut policy = valid_of_size(rng, 32, 64);
+    for (role, row) in policy.rows.iter_mut().enumerate() {
+        row.viewers = u32::MAX << 6 | role as u32 | 1 << row.owner;
+        row.members &= row.viewers & row.trusters;
+        row.takes &= 1 << role;
+    }
+    policy
+}
+
+fn check_policy(bytes: &[u8], counts: &mut [usize; 8]) {
+    let number = policy::check(bytes);
+    counts[number as usize] += 1;
+    assert_eq!(fast::policy(bytes), number, "{bytes:02x?}");
+    let roles = bytes.get(6).map_or(0, |roles| u32::from(*roles));
+    for role in (0..=roles.min(65)).chain([u32::MAX]) {
+        let expected = policy::meaning(bytes, role);
+        counts[7] += usize::from(expected.0 == 7);
+        assert_eq!(fast::meaning(bytes, role), expected, "{role} {bytes:02x?}");
+    }
+}
+
+#[test]
+fn fast_agrees_on_programs() {
+    for counts in with_both_seeds(|mut rng| {
+        let mut counts = [0; 23];
+        for case in largest() {
+            assert_eq!(check_case(case, &mut counts), 0);
+        }
+        for _ in 0..VERDICTS {
+            for case in [
+                any(&mut rng),
+                rich(&mut rng),
+                live(&mut rng),
+                written_elsewhere(&mut rng).0,
+                chain_of_queries(&mut rng).0,
+                loosened(&mut rng),
+                loosened(&mut rng),
+                written_elsewhere_loosened(&mut rng),
+            ] {
+                check_case(case, &mut counts);
+            }
+            for fault in FAULTS {
+                check_case(with_fault(&mut rng, fault), &mut counts);
+            }
+            let (policy, program) = noise(&mut rng);
+            check_program(&encode_policy(&policy), &program, &mut counts);
+            let part = *rng.pick(&PARTS);
+            for refused in [
+                wrong_part(&mut rng, part),
+                ends_early(&mut rng),
+                left_over(&mut rng),
+                over_length(&mut rng),
+                too_deep_statement(&mut rng),
+                too_deep_expression(&mut rng),
+            ] {
+                check_program(&encode_policy(&refused.policy), &refused.bytes, &mut counts);
+            }
+        }
+        counts
+    }) {
+        println!("{counts:?}");
+        assert!(counts[0] > 3 * VERDICTS, "{counts:?}");
+        assert!(counts[10..19].iter().all(|count| *count > VERDICTS / 10), "{counts:?}");
+    }
+}
+
+fn largest() -> [Case; 5] {
+    [
+        largest::skips(),
+        largest::assignments(),
+        largest::transactions(),
+        largest::nested_queries(),
+        largest::known_queries(),
+    ]
+}
+
+/// A rule of updates just met or missed, in more than one place.
+fn written_elsewhere_loosened(rng: &mut Rng) -> Case {
+    let (mut case, _) = written_elsewhere(rng);
+    let (other, _) = chain_of_queries(rng);
+    if rng.below(2) == 0 && other.policy.rows.len() <= case.policy.rows.len() {
+        case.program = other.program;
+    }
+    case
+}
+
+/// Gives the number.
+fn check_case(mut case: Case, counts: &mut [usize; 23]) -> u32 {
+    let program = encode(&mut case.program).bytes;
+    check_program(&encode_policy(&case.policy), &program, counts)
+}
+
+fn check_program(policy: &[u8], program: &[u8], counts: &mut [usize; 23]) -> u32 {
+    let shown = || format!("{policy:02x?} {program:02x?}");
+    let expected = flow::verdict(policy, program);
+    counts[expected.0 as usize] += 1;
+    assert_eq!(fast::verdict(policy, program), expected, "{}", shown());
+    for k in [0, 1, 2, 1313, u32::MAX] {
+        let body = flow::transaction(policy, program, k);
+        assert_eq!(fast::transaction(policy, program, k), (expected.0, body), "{}", shown());
+    }
+    expected.0
+}
+
+/// What a run is given.
+#[derive(Clone, Debug)]
+struct Input {
+    policy: Vec<u8>,
+    program: Vec<u8>,
+    memory: Vec<u8>,
+    fuel: u32,
+}
+
+#[derive(Debug, Default)]
+struct Counts {
+    runs: usize,
+    /// How often each of 0 to 22 came up.
+    numbers: [usize; 23],
+    rolled_back: usize,
+    changed_meanings: usize,
+    /// A while ran its body more than twice.
+    looped: usize,
+}
+
+#[test]
+fn fast_agrees_on_runs() {
+    for counts in with_both_seeds(|mut rng| {
+        let mut counts = Counts::default();
+        for _ in 0..RUNS {
+            let case = live(&mut rng);
+            run_case(&mut rng, &case, &mut counts);
+            let case = stirred(&mut rng);
+            run_case(&mut rng, &case, &mut counts);
+            let case = if rng.below(2) == 0 { rich(&mut rng) } else { any(&mut rng) };
+            run_case(&mut rng, &case, &mut counts);
+            refused_runs(&mut rng, &mut counts);
+        }
+        counts
+    }) {
+        println!("{counts:?}");
+        assert!(counts.runs >= 20_000, "{counts:?}");
+        for number in [0, 10, 12, 13, 14, 15, 16, 17, 18, 20, 21, 22] {
+            assert!(counts.numbers[number] > 20, "{number}: {counts:?}");
+        }
+        assert!(counts.rolled_back > 1_000, "{counts:?}");
+        assert!(counts.changed_meanings > 3_000, "{counts:?}");
+        assert!(counts.looped > 2_000, "{counts:?}");
+    }
+}
+
+/// A program written to be run under a larger policy, whose updates are made of more mutations, the most
+/// of them of taken roles.
+fn stirred(rng: &mut Rng) -> Case {
+    let mut case = live(rng);
+    let policy = case.policy.clone();
+    stir(rng, &policy, &mut case.program.statement);
+    case
+}
+
+fn stir(rng: &mut Rng, policy: &policy::Policy, statement: &mut Statement) {
+    match &mut statement.form {
+        Form::Skip | Form::Assign { .. } => {}
+        Form::Update(mutations) => {
+            // The roles mutated stay the same, so that what was accepted mostly is.
+            let roles: Vec<u8> = mutations.iter().map(|mutation| mutation.role).collect();
+            let more = (0..1 + rng.below(12)).map(|_| {
+                let role = *rng.pick(&roles);
+                let row = &policy.rows[usize::from(role)];
+                let same = |other: &policy::Row| {
+                    (other.viewers, other.trusters) == (row.viewers, row.trusters)
+                };
+                let class: Vec<u8> = (0..policy.rows.len())
+                    .filter(|other| same(&policy.rows[*other]))
+                    .map(|other| other as u8)
+                    .collect();
+                match rng.below(6) {
+                    0 => mutation(Kind::AddMember, role, row.owner),
+                    1 => mutation(Kind::DeleteMember, role, row.owner),
+                    2 | 3 => mutation(Kind::AddTaken, role, *rng.pick(&class)),
+                    _ => mutation(Kind::DeleteTaken, role, *rng.pick(&class)),
+                }
+            });
+            statement.form = update(more.collect::<Vec<_>>()).form;
+        }
+        Form::Block(parts) => parts.iter_mut().for_each(|part| stir(rng, policy, part)),
+        Form::If { first, second, .. } | Form::Query { first, second, .. } => {
+            stir(rng, policy, first);
+            stir(rng, policy, second);
+        }
+        Form::While { body, .. } => stir(rng, policy, body),
+        Form::Transaction(transaction) => stir(rng, policy, &mut transaction.body),
+    }
+}
+
+/// With plenty of fuel, with just enough and just not, and with some other memory or fuel.
+fn run_case(rng: &mut Rng, case: &Case, counts: &mut Counts) {
+    let Case { policy, program } = case;
+    let input = input(rng, policy, program);
+    let units = check_run(rng, &input, counts);
+    let wrong_fuel = *rng.pick(&[0, MOST_FUEL + 1, u32::MAX]);
+    let some = 1 + rng.below(units.max(1) as usize) as u32;
+    for fuel in [units, units.saturating_sub(1), some, wrong_fuel] {
+        check_run(rng, &Input { fuel, ..input.clone() }, counts);
+    }
+    let memory = wrong_memory(rng, &input.memory);
+    check_run(rng, &Input { memory, ..input }, counts);
+}
+
+fn input(rng: &mut Rng, policy: &policy::Policy, program: &Program) -> Input {
+    let memory = memory(rng, program.labels.len());
+    let program = encode(&mut program.clone()).bytes;
+    Input { policy: encode_policy(policy), program, memory, fuel: PLENTY }
+}
+
+fn refused_runs(rng: &mut Rng, counts: &mut Counts) {
+    let fault = *rng.pick(&FAULTS);
+    let Case { policy, mut program } = match rng.below(2) {
+        0 => with_fault(rng, fault),
+        _ => loosened(rng),
+    };
+    let bytes = encode(&mut program).bytes;
+    let made = match rng.below(4) {
+        0 => (encode_policy(&policy), bytes),
+        1 => (generate::noise(rng), bytes),
+        2 => {
+            let part = *rng.pick(&PARTS);
+            let make =
+                [ends_early, left_over, over_length, too_deep_statement, too_deep_expression];
+            let refused = match rng.below(2) {
+                0 => wrong_part(rng, part),
+                _ => rng.pick(&make)(rng),
+            };
+            (encode_policy(&refused.policy), refused.bytes)
+        }
+        _ => {
+            let (policy, program) = noise(rng);
+            (encode_policy(&policy), program)
+        }
+    };
+    let variables = made.1.get(5).map_or(0, |count| usize::from(*count));
+    let memory = memory(rng, variables);
+    let (policy, program) = made;
+    check_run(rng, &Input { policy, program, memory, fuel: PLENTY }, counts);
+}
+
+/// Gives the units.
+fn check_run(rng: &mut Rng, input: &Input, counts: &mut Counts) -> u32 {
+    let Input { policy, program, memory, fuel } = input;
+    let (expected, trace) = call_by(&Rules::default(), policy, program, memory, *fuel);
+    let [mut own_policy, own_program, mut own_memory] =
+        [policy, program, memory].map(|bytes| Framed::new(rng, bytes));
+    let found =
+        fast::run(own_policy.bytes_mut(), own_program.bytes(), own_memory.bytes_mut(), *fuel);
+    assert_eq!(found, (expected.number, expected.units), "{input:02x?}");
+    if expected.number != 0 {
+        own_policy.assert_unchanged();
+        own_memory.assert_unchanged();
+    }
+    own_policy.assert_changed_to(&expected.policy);
+    own_memory.assert_changed_to(&expected.memory);
+    own_program.assert_unchanged();
+    counts.runs += 1;
+    counts.numbers[expected.number as usize] += 1;
+    counts.rolled_back += usize::from(!trace.rollbacks.is_empty());
+    counts.changed_meanings += usize::from(trace.changes > 0);
+    counts.looped += usize::from(trace.most_turns() > 2);
+    expected.units
+}
