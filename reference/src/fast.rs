@@ -4,6 +4,8 @@
 //!
 //! Nothing is allocated. What a call needs lies on the stack, in one of two sizes, and is not cleared.
 
+use std::mem::MaybeUninit;
+
 mod bytes;
 mod code;
 mod expression;
@@ -18,7 +20,7 @@ mod verdict;
 
 /// The number 0 to 6 of any bytes as a policy.
 pub fn policy(bytes: &[u8]) -> u32 {
-    policy::Table::new().read(bytes)
+    policy::Table::start(&mut MaybeUninit::uninit()).read(bytes)
 }
 
 /// The number 0 to 7, and the role's meaning, which is 0 at any refusal.

@@ -20,11 +20,11 @@ use reference::generate_memory::{memory, wrong_memory};
 use reference::generate_program::{any, live, rich, with_fault, Case};
 use reference::generate_rules::{chain_of_queries, written_elsewhere};
 use reference::loosen::{loosened, noise};
-use reference::program::{Form, Kind, Program, Statement};
+use reference::program::{Atom, Form, Kind, Mutation, Operator, Program, Query, Statement};
 use reference::rng::Rng;
 use reference::rules::Rules;
 use reference::run::call::{call_by, MOST_FUEL};
-use reference::shapes::{mutation, update};
+use reference::shapes::*;
 use reference::writer::FAULTS;
 use reference::{fast, flow, largest, policy};
 
@@ -217,8 +217,102 @@ fn fast_agrees_on_runs() {
     }
 }
 
-/// A program written to be run under a larger policy, whose updates are made of more mutations, the most
-/// of them of taken roles.
+/// How many runs under many roles that are mutated at random.
+const TURMOILS: usize = 1_500;
+
+/// What roles mean is kept from one update to the next: so updates of all kinds, in long rows, with queries
+/// in between, in transactions that list queries or none.
+#[test]
+fn fast_agrees_on_many_updates() {
+    for counts in with_both_seeds(|mut rng| {
+        let mut counts = Counts::default();
+        for _ in 0..TURMOILS {
+            let case = turmoil(&mut rng);
+            let input = Input { fuel: 400, ..input(&mut rng, &case.policy, &case.program) };
+            check_run(&mut rng, &input, &mut counts);
+        }
+        counts
+    }) {
+        println!("{counts:?}");
+        assert!(counts.numbers[0] > TURMOILS / 4, "{counts:?}");
+        assert_eq!(counts.numbers[0] + counts.numbers[22], TURMOILS, "{counts:?}");
+        assert!(counts.rolled_back > TURMOILS / 10, "{counts:?}");
+        assert!(counts.changed_meanings > TURMOILS / 2, "{counts:?}");
+    }
+}
+
+/// Everything is open to all, so that every program of this shape is accepted.
+fn turmoil(rng: &mut Rng) -> Case {
+    let roles = *rng.pick(&[2, 5, 20, 63, 64]);
+    let class = u64::MAX >> (64 - roles);
+    let manner = rng.below(5);
+    let row = |role: u8| policy::Row {
+        owner: 0,
+        name: role,
+        viewers: u32::MAX,
+        trusters: u32::MAX,
+        members: if rng.below(4) == 0 { rng.word() as u32 } else { 0 },
+        takes: class
+            & match manner {
+                0 => 0,
+                1 => 1 << ((role + 1) % 64),
+                2 => 1 << (role.wrapping_sub(1) % 64),
+                3 => rng.word() & rng.word() & rng.word() & rng.word() & rng.word(),
+                _ => u64::MAX,
+            },
+    };
+    let rows = (0..roles).map(row).collect();
+    let near = if rng.below(2) == 0 { roles } else { roles.min(6) };
+    let statement = block((0..1 + rng.below(3)).map(|_| stormy(rng, roles, near)));
+    let program = Program { labels: vec![OPEN; 2], statement };
+    Case { policy: policy::Policy { principals: 32, rows }, program }
+}
+
+/// A transaction with updates among these roles, and those near.
+fn stormy(rng: &mut Rng, roles: u8, near: u8) -> Statement {
+    let atom = |rng: &mut Rng| match rng.below(6) {
+        0 => Atom::Everyone,
+        1 => Atom::Viewers(rng.below(usize::from(roles)) as u8),
+        2 | 3 => Atom::Role(rng.below(usize::from(roles)) as u8),
+        _ => Atom::Role(rng.below(usize::from(near)) as u8),
+    };
+    let count = rng.below(5) * rng.below(5);
+    let list: Vec<Query> = (0..count).map(|_| Query(atom(rng), atom(rng))).collect();
+    let counted = assign(1, binary(Operator::Sum, variable(1), constant(1)));
+    let parts: Vec<Statement> = (0..1 + rng.below(24))
+        .map(|_| match rng.below(5) {
+            0 if count != 0 => ask(*rng.pick(&list), counted.clone(), skip()),
+            1 => counted.clone(),
+            _ => update((0..1 + rng.below(16)).map(|_| any_mutation(rng, roles, near))),
+        })
+        .collect();
+    let turns = binary(Operator::Less, variable(0), constant(rng.below(6) as i32));
+    let turn = assign(0, binary(Operator::Sum, variable(0), constant(1)));
+    let looped = while_true(turns, block(parts.into_iter().chain([turn])));
+    match rng.below(4) {
+        0 => while_true(
+            binary(Operator::Less, variable(1), constant(20)),
+            block([transaction(list, block([looped, counted.clone()])), counted]),
+        ),
+        _ => transaction(list, looped),
+    }
+}
+
+fn any_mutation(rng: &mut Rng, roles: u8, near: u8) -> Mutation {
+    let role = |rng: &mut Rng| {
+        let roles = if rng.below(4) == 0 { roles } else { near };
+        rng.below(usize::from(roles)) as u8
+    };
+    match rng.below(8) {
+        0 | 1 => mutation(Kind::AddMember, role(rng), rng.below(4) as u8),
+        2 => mutation(Kind::DeleteMember, role(rng), rng.below(4) as u8),
+        3 => mutation(Kind::DeleteMember, role(rng), rng.below(32) as u8),
+        4 | 5 => mutation(Kind::AddTaken, role(rng), role(rng)),
+        _ => mutation(Kind::DeleteTaken, role(rng), role(rng)),
+    }
+}
+
+/// A program written to be run whose updates are made of more mutations, the most of them of taken roles.
 fn stirred(rng: &mut Rng) -> Case {
     let mut case = live(rng);
     let policy = case.policy.clone();

@@ -1,10 +1,13 @@
 //! The meaning of one role: the members of all roles that it reaches.
 
+use std::mem::MaybeUninit;
+
 use super::bytes::{take_lowest, u32_at, u64_at};
 use super::policy::{Table, HEAD, ROW};
 
 pub fn meaning(bytes: &[u8], role: u32) -> (u32, u32) {
-    let mut table = Table::new();
+    let mut room = MaybeUninit::uninit();
+    let table = Table::start(&mut room);
     let number = table.read(bytes);
     if number != 0 {
         return (number, 0);

@@ -72,10 +72,12 @@ pub struct LabelRows {
 }
 
 impl LabelRows {
+    /// # Safety
+    /// There is room for them.
     #[inline(always)]
-    pub fn new() -> LabelRows {
-        let rows = [MaybeUninit::uninit(); MOST_ROLES + 1];
-        LabelRows { have: 0, have_everyone: false, rows }
+    pub unsafe fn start(room: *mut LabelRows) {
+        (&raw mut (*room).have).write(0);
+        (&raw mut (*room).have_everyone).write(false);
     }
 
     pub fn of(&mut self, table: &Table, label: u8) -> Below {
@@ -106,29 +108,18 @@ pub struct Listed {
     leads: [MaybeUninit<u32>; 16],
     /// The last search: from where, among which, and its outcome.
     last: (u32, u32),
-    found: Below,
+    found: MaybeUninit<Below>,
 }
 
 impl Listed {
+    /// # Safety
+    /// There is room for it.
     #[inline(always)]
-    pub fn new() -> Listed {
-        Listed {
-            list: std::ptr::null(),
-            count: 0,
-            have: 0,
-            rows: [MaybeUninit::uninit(); 16],
-            leads: [MaybeUninit::uninit(); 16],
-            last: (0, 0),
-            found: [0; 4],
-        }
-    }
-
-    #[inline(always)]
-    pub fn start(&mut self, list: *const u8, count: usize) {
-        self.list = list;
-        self.count = count;
-        self.have = 0;
-        self.last = (0, 0);
+    pub unsafe fn start(room: *mut Listed, list: *const u8, count: usize) {
+        (&raw mut (*room).list).write(list);
+        (&raw mut (*room).count).write(count);
+        (&raw mut (*room).have).write(0);
+        (&raw mut (*room).last).write((0, 0));
     }
 
     /// The index of a pair of atoms in the list, if it stands there. Four are compared at a time, as
@@ -175,7 +166,7 @@ impl Listed {
     /// The list can be read; what is known is listed, and so is where the search starts.
     pub unsafe fn below_any(&mut self, table: &Table, start: u32, known: u32) -> Below {
         if self.last == (start, known) {
-            return self.found;
+            return self.found.assume_init();
         }
         let (mut reached, mut done) = (start & known, 0);
         let mut found = [0; 4];
@@ -189,7 +180,7 @@ impl Listed {
             }
         }
         self.last = (start, known);
-        self.found = found;
+        self.found.write(found);
         found
     }
 

@@ -26,17 +26,17 @@ pub struct Table {
 }
 
 impl Table {
+    /// A table in this room, with no roles yet. Only the numbers are set: a struct made whole would be
+    /// cleared or copied.
     #[inline(always)]
-    pub fn new() -> Table {
-        let unset = [MaybeUninit::uninit(); MOST_ROLES];
-        Table {
-            principals: 0,
-            roles: 0,
-            keys: unset,
-            takes: unset,
-            classes: 0,
-            class_keys: unset,
-            class_roles: unset,
+    pub fn start(room: &mut MaybeUninit<Table>) -> &mut Table {
+        let table = room.as_mut_ptr();
+        // SAFETY: the room is one table's; all fields but these may be unset.
+        unsafe {
+            (&raw mut (*table).principals).write(0);
+            (&raw mut (*table).roles).write(0);
+            (&raw mut (*table).classes).write(0);
+            &mut *table
         }
     }
 
@@ -204,7 +204,9 @@ fn head(bytes: &[u8]) -> u32 {
     if bytes.len() < HEAD {
         return 1;
     }
-    if bytes[..5] != *b"RXT\x01\x00" {
+    // SAFETY: there are seven bytes.
+    let mark = unsafe { u32_at(bytes.as_ptr()) };
+    if mark != u32::from_le_bytes(*b"RXT\x01") || bytes[4] != 0 {
         return 2;
     }
     if bytes[5].wrapping_sub(1) >= 32 || bytes[6] > 64 {

@@ -70,8 +70,12 @@ impl Rights {
     }
 
     /// Writes the rows that changed.
-    pub fn store(&self, policy: &mut [u8]) {
-        let mut changed = self.changed;
+    pub fn store(&mut self, policy: &mut [u8]) {
+        while self.moved != 0 {
+            let principal = take_lowest(&mut self.moved);
+            self.move_members(principal);
+        }
+        let mut changed = self.changed | self.rewired;
         while changed != 0 {
             let role = take_lowest(&mut changed);
             let row = &mut policy[HEAD + ROW * role..][..ROW];
@@ -97,35 +101,32 @@ impl Rights {
         }
     }
 
+    /// One mutation; of the first that changes a word since that was settled, the word before is kept.
     #[inline(always)]
     pub unsafe fn mutate(&mut self, kind: u8, role: u8, operand: u8) {
-        let row = 1_u64 << (role & 63);
-        let add = u64::from(kind & 1 == 0) << (role & 63);
+        let add = u64::from(kind & 1 == 0);
         if kind < 2 {
-            let principal = usize::from(operand & 31);
-            let old = self.holders[principal];
-            let new = old & !row | add;
+            let principal = usize::from(operand);
+            let word = self.holders.get_unchecked_mut(principal);
+            let (old, new) = (*word, *word & !(1 << role) | add << role);
             if new != old {
+                *word = new;
                 if self.moved >> principal & 1 == 0 {
-                    self.holders_before[principal] = old;
+                    self.moved |= 1 << principal;
+                    *self.holders_before.get_unchecked_mut(principal) = old;
                 }
-                self.holders[principal] = new;
-                self.members[usize::from(role & 63)] ^= 1 << principal;
-                self.moved |= 1 << principal;
-                self.changed |= row;
             }
             return;
         }
-        let taken = 1_u64 << (operand & 63);
-        let old = self.takes[usize::from(role & 63)];
-        let new = if kind == 2 { old | taken } else { old & !taken };
+        let role = usize::from(role);
+        let word = self.takes.get_unchecked_mut(role);
+        let (old, new) = (*word, *word & !(1 << operand) | add << operand);
         if new != old {
-            if self.rewired & row == 0 {
-                self.takes_before[usize::from(role & 63)] = old;
+            *word = new;
+            if self.rewired >> role & 1 == 0 {
+                self.rewired |= 1 << role;
+                *self.takes_before.get_unchecked_mut(role) = old;
             }
-            self.takes[usize::from(role & 63)] = new;
-            self.rewired |= row;
-            self.changed |= row;
         }
     }
 
@@ -168,8 +169,11 @@ impl Rights {
     fn settle(&mut self) -> u64 {
         if !self.settled {
             self.settled = true;
-            self.moved = 0;
-            self.rewired = 0;
+            while self.moved != 0 {
+                let principal = take_lowest(&mut self.moved);
+                self.move_members(principal);
+            }
+            self.changed |= std::mem::take(&mut self.rewired);
             let all = ((1_u128 << self.roles) - 1) as u64;
             self.rework(all);
             return all;
@@ -185,12 +189,23 @@ impl Rights {
         other
     }
 
+    /// Brings the members of rows up to date with a principal's holders.
+    #[inline(always)]
+    fn move_members(&mut self, principal: usize) {
+        let mut roles = self.holders_before[principal & 31] ^ self.holders[principal & 31];
+        self.changed |= roles;
+        while roles != 0 {
+            self.members[take_lowest(&mut roles)] ^= 1 << principal;
+        }
+    }
+
     /// A principal is in the meaning of each role that reaches one of its holders.
     fn settle_principal(&mut self, principal: usize) -> u64 {
-        let (old, new) = (self.holders_before[principal], self.holders[principal]);
+        let (old, new) = (self.holders_before[principal & 31], self.holders[principal & 31]);
         if old == new {
             return 0;
         }
+        self.move_members(principal);
         let kept = self.reaching_any(old & new, 0);
         let before = self.reaching_any(old & !new, kept);
         let after = self.reaching_any(new & !old, kept);
@@ -263,6 +278,7 @@ impl Rights {
                 continue;
             }
             rewired |= 1 << role;
+            self.changed |= 1 << role;
             gained |= u64::from(new & !self.reach[role] != 0) << role;
             let removed = old & !new & !(1 << role);
             lost = lost || removed != 0 && !self.still_reaches(role, removed);

@@ -1,6 +1,8 @@
 //! What a transaction's updates are held to. It hangs on all that the transaction writes, so what flows
 //! into its updates is noted while it is read, and judged at its end.
 
+use std::mem::MaybeUninit;
+
 use super::bytes::bit;
 use super::order::{below_key, below_set, each, holding, Listed, Meet};
 use super::policy::Table;
@@ -29,23 +31,24 @@ pub struct Around {
 }
 
 impl Around {
+    /// # Safety
+    /// There is room for it.
     #[inline(always)]
-    pub fn new(flows: *mut Flow) -> Around {
-        Around {
-            inside: false,
-            listed: Listed::new(),
-            named: 0,
-            assigned: 0,
-            mutated: 0,
-            flows,
-            count: 0,
-        }
+    pub unsafe fn outside(room: *mut Around, flows: *mut Flow) {
+        (&raw mut (*room).flows).write(flows);
+        (&raw mut (*room).assigned).write(0);
+        (&raw mut (*room).mutated).write(0);
+        (&raw mut (*room).inside).write(false);
+        (&raw mut (*room).count).write(0);
+        (&raw mut (*room).named).write(0);
+        Listed::start(&raw mut (*room).listed, std::ptr::null(), 0);
     }
 
     #[inline(always)]
     pub fn start(&mut self, list: *const u8, count: usize, named: u64) {
         self.inside = true;
-        self.listed.start(list, count);
+        // SAFETY: it is there already.
+        unsafe { Listed::start(&mut self.listed, list, count) };
         self.named = named;
         self.assigned = 0;
         self.mutated = 0;
@@ -87,8 +90,10 @@ impl Around {
     /// The list can be read.
     pub unsafe fn refused(&mut self, table: &Table, labels: Labels) -> Option<(u32, u32)> {
         let Labels { readers, trusters, open_readers, open_trusters } = labels;
-        let mut reading = Target::new(table, 0, self.mutated, readers, open_readers);
-        let mut trust = Target::new(table, 32, self.mutated, trusters, open_trusters);
+        let mut rooms = [const { MaybeUninit::uninit() }; 2];
+        let [reading, trust] = &mut rooms;
+        let reading = Target::start(reading, table, 0, self.mutated, readers, open_readers);
+        let trust = Target::start(trust, table, 32, self.mutated, trusters, open_trusters);
         for index in 0..self.count {
             let flow = &*self.flows.add(index);
             let asked = flow.asked | self.named;
@@ -132,7 +137,7 @@ struct Target {
     /// With no query known.
     plain: Meet,
     groups: usize,
-    group: [std::mem::MaybeUninit<Group>; MOST_GROUPS],
+    group: [MaybeUninit<Group>; MOST_GROUPS],
     /// What the meet was last made for.
     known: u32,
     meet: Meet,
@@ -140,17 +145,26 @@ struct Target {
 
 impl Target {
     #[inline(always)]
-    fn new(table: &Table, shift: u32, mutated: u64, labels: u64, open: bool) -> Target {
-        let mut target = Target {
-            shift,
-            mutated,
-            labels,
-            open,
-            plain: Meet::ALL,
-            groups: 0,
-            group: [std::mem::MaybeUninit::uninit(); MOST_GROUPS],
-            known: 0,
-            meet: Meet::ALL,
+    fn start<'a>(
+        room: &'a mut MaybeUninit<Target>,
+        table: &Table,
+        shift: u32,
+        mutated: u64,
+        labels: u64,
+        open: bool,
+    ) -> &'a mut Target {
+        let place = room.as_mut_ptr();
+        // SAFETY: the room is one target's; all fields but the groups are set.
+        let target = unsafe {
+            (&raw mut (*place).shift).write(shift);
+            (&raw mut (*place).mutated).write(mutated);
+            (&raw mut (*place).labels).write(labels);
+            (&raw mut (*place).open).write(open);
+            (&raw mut (*place).plain).write(Meet::ALL);
+            (&raw mut (*place).groups).write(0);
+            (&raw mut (*place).known).write(0);
+            (&raw mut (*place).meet).write(Meet::ALL);
+            &mut *place
         };
         target.plain = target.plain_meet(table);
         target.meet = target.plain;

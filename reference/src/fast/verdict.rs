@@ -30,14 +30,15 @@ impl Answer {
 }
 
 pub fn answer(policy: &[u8], program: &[u8], wanted: u32) -> Answer {
-    let mut table = Table::new();
+    let mut room = MaybeUninit::uninit();
+    let table = Table::start(&mut room);
     let number = table.read(policy);
     if number != 0 {
         return Answer::refused(number, 0);
     }
     match program.len() {
-        ..=SMALL => in_small_space(&table, program, wanted),
-        ..=MOST_BYTES => in_large_space(&table, program, wanted),
+        ..=SMALL => in_small_space(table, program, wanted),
+        ..=MOST_BYTES => in_large_space(table, program, wanted),
         _ => Answer::refused(10, MOST_BYTES),
     }
 }
@@ -63,8 +64,9 @@ fn in_space<const BYTES: usize, const FLOWS: usize>(
     // SAFETY: the space is made for programs of this length, and no code is written.
     unsafe {
         let (start, flows) = space.fill(program);
-        let mut pass = Pass::<false>::new(table, start, program.len(), flows, wanted);
-        pass.run(&mut code)
+        let mut room = MaybeUninit::uninit();
+        let length = program.len();
+        Pass::<false>::start(&mut room, table, start, length, flows, wanted).run(&mut code)
     }
 }
 
@@ -122,28 +124,32 @@ pub struct Pass<'a, const RUN: bool> {
 }
 
 impl<'a, const RUN: bool> Pass<'a, RUN> {
+    /// A pass in this room, before its first byte. Only what is known is set: a struct made whole would be
+    /// cleared or copied.
     #[inline(always)]
-    pub fn new(
+    pub fn start<'b>(
+        room: &'b mut MaybeUninit<Self>,
         table: &'a Table,
         start: *const u8,
         length: usize,
         flows: *mut Flow,
         wanted: u32,
-    ) -> Self {
-        let unset = [MaybeUninit::uninit(); 64];
-        Pass {
-            table,
-            start,
-            length,
-            variables: Variables { count: 0, readers: unset, trusters: unset },
-            rows: LabelRows::new(),
-            around: Around::new(flows),
-            frames: [MaybeUninit::uninit(); MOST_DEPTH + 1],
-            refused: 0,
-            refused_at: 0,
-            wanted,
-            transactions: 0,
-            body: (0, 0),
+    ) -> &'b mut Self {
+        let pass = room.as_mut_ptr();
+        // SAFETY: the room is one pass's; all fields but these may be unset.
+        unsafe {
+            (&raw mut (*pass).table).write(table);
+            (&raw mut (*pass).start).write(start);
+            (&raw mut (*pass).length).write(length);
+            (&raw mut (*pass).variables.count).write(0);
+            LabelRows::start(&raw mut (*pass).rows);
+            Around::outside(&raw mut (*pass).around, flows);
+            (&raw mut (*pass).refused).write(0);
+            (&raw mut (*pass).refused_at).write(0);
+            (&raw mut (*pass).wanted).write(wanted);
+            (&raw mut (*pass).transactions).write(0);
+            (&raw mut (*pass).body).write((0, 0));
+            &mut *pass
         }
     }
 
@@ -250,16 +256,6 @@ impl<'a, const RUN: bool> Pass<'a, RUN> {
                     at = at.add(1);
                     if RUN {
                         code.put(Op::Skip, 0, 0, 0);
-                    } else if kind == Kind::Block {
-                        // Skips come in rows.
-                        while left > 8 && u64_at(at) == 0 {
-                            at = at.add(8);
-                            left -= 8;
-                        }
-                        while left > 1 && *at == 0 {
-                            at = at.add(1);
-                            left -= 1;
-                        }
                     }
                 }
                 1 => at = self.assign(at, &context, code)?,
