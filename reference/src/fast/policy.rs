@@ -112,7 +112,8 @@ impl Table {
     fn read_rows(&mut self, bytes: &[u8]) -> u32 {
         let same_pair = match self.roles {
             ..=FEW => same_pair_of_few(bytes, self.roles),
-            _ => same_pair(bytes, self.roles),
+            // SAFETY: the length was checked.
+            _ => unsafe { same_pair(bytes, self.roles) },
         };
         let everyone = self.everyone();
         let (mut outside, mut wrong, mut stray) = (0, u32::from(same_pair), 0);
@@ -265,17 +266,20 @@ impl Row {
 
 /// Whether two rows have the same owner and name, by a bit for each pair; that of owners over 31 may be
 /// wrong, which are refused anyway.
-fn same_pair(bytes: &[u8], roles: usize) -> bool {
+///
+/// # Safety
+/// The bytes have so many rows.
+unsafe fn same_pair(bytes: &[u8], roles: usize) -> bool {
     let mut seen = [0_u64; 128];
     let mut twice = 0;
     for role in 0..roles {
-        let row = &bytes[HEAD + ROW * role..];
-        let (owner, name) = (usize::from(row[0] & 31), row[1]);
+        let row = bytes.as_ptr().add(HEAD + ROW * role);
+        let (owner, name) = (usize::from(*row & 31), *row.add(1));
         let word = &mut seen[4 * owner + usize::from(name >> 6)];
-        twice |= *word >> (name & 63) & 1;
+        twice |= *word >> (name & 63);
         *word |= 1 << (name & 63);
     }
-    twice != 0
+    twice & 1 != 0
 }
 
 fn same_pair_of_few(bytes: &[u8], roles: usize) -> bool {

@@ -256,6 +256,12 @@ impl<'a, const RUN: bool> Pass<'a, RUN> {
                     at = at.add(1);
                     if RUN {
                         code.put(Op::Skip, 0, 0, 0);
+                    } else if kind == Kind::Block {
+                        // Skips come in rows.
+                        while left > 1 && *at == 0 {
+                            at = at.add(1);
+                            left -= 1;
+                        }
                     }
                 }
                 1 => at = self.assign(at, &context, code)?,
