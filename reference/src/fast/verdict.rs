@@ -5,7 +5,7 @@
 use std::mem::MaybeUninit;
 
 use super::bytes::{bit, take_lowest, u32_at, u64_at};
-use super::code::{Code, Op};
+use super::code::{op, Code, SEVERAL};
 use super::expression::{self, Fault, Joined, Variables};
 use super::order::{LabelRows, EVERYONE};
 use super::policy::Table;
@@ -255,7 +255,7 @@ impl<'a, const RUN: bool> Pass<'a, RUN> {
                 0 => {
                     at = at.add(1);
                     if RUN {
-                        code.put(Op::Skip, 0, 0, 0);
+                        code.put(op::SKIP, 0, 0, 0);
                     } else if kind == Kind::Block {
                         // Skips come in rows.
                         while left > 1 && *at == 0 {
@@ -291,7 +291,7 @@ impl<'a, const RUN: bool> Pass<'a, RUN> {
                     let mut test = 0;
                     if RUN {
                         let (a, b) = (*at.sub(2), *at.sub(1));
-                        test = code.put(Op::Query, 0, u16::from(a), u16::from(b));
+                        test = code.put(op::QUERY, 0, u16::from(a), u16::from(b));
                     }
                     enter!(Kind::Query, 2, test, 0, outer);
                 }
@@ -500,14 +500,14 @@ impl<'a, const RUN: bool> Pass<'a, RUN> {
             code.policy = true;
             match count {
                 1 => code.put(
-                    Op::UpdateOne,
+                    op::UPDATE,
                     *statement.add(2),
                     u16::from(*statement.add(3)),
                     u16::from(*statement.add(4)),
                 ),
                 _ => {
                     let first = statement.add(2).offset_from(self.start) as u16;
-                    code.put(Op::Update, count, first, 0)
+                    code.put(op::UPDATE, SEVERAL + count, first, 0)
                 }
             };
         }
