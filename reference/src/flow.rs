@@ -3,7 +3,7 @@
 //! counts. Reading and trust are two sides with the same rules.
 
 use crate::number;
-use crate::order::{Join, KnownOrder, Order};
+use crate::order::{Join, Order};
 use crate::policy::{bits, Policy, Side, SIDES};
 use crate::program::{
     Atom, Expression, Form, Kind, Labels, Mutation, Program, Query, Refusal, Statement, Transaction,
@@ -48,16 +48,7 @@ pub fn check(policy: &Policy, program: &Program) -> Result<(), Refusal> {
 
 /// The same by other rules.
 pub fn check_by(rules: &Rules, policy: &Policy, program: &Program) -> Result<(), Refusal> {
-    check_from(rules, policy, program, &Order::new_by(rules, policy))
-}
-
-/// The same by the order with no query known, however that is kept.
-pub fn check_from(
-    rules: &Rules,
-    policy: &Policy,
-    program: &Program,
-    order: &impl KnownOrder,
-) -> Result<(), Refusal> {
+    let order = &Order::new_by(rules, policy);
     let checker = Checker { rules, policy, labels: &program.labels };
     let start = Context { joins: Sides::both(|_| Join::EMPTY), order, transaction: None };
     checker.statement(&program.statement, start)
@@ -140,20 +131,13 @@ impl Sides {
 }
 
 /// What holds where a statement stands.
-struct Context<'a, O> {
+#[derive(Clone, Copy)]
+struct Context<'a> {
     joins: Sides,
     /// By the queries known here.
-    order: &'a O,
+    order: &'a Order,
     transaction: Option<&'a Around<'a>>,
 }
-
-impl<O> Clone for Context<'_, O> {
-    fn clone(&self) -> Self {
-        *self
-    }
-}
-
-impl<O> Copy for Context<'_, O> {}
 
 /// The transaction around a statement.
 struct Around<'a> {
@@ -171,11 +155,7 @@ struct Checker<'a> {
 }
 
 impl Checker<'_> {
-    fn statement<O: KnownOrder>(
-        &self,
-        statement: &Statement,
-        context: Context<O>,
-    ) -> Result<(), Refusal> {
+    fn statement(&self, statement: &Statement, context: Context) -> Result<(), Refusal> {
         let refuse = |number| Err(Refusal { number, place: statement.at });
         match &statement.form {
             Form::Skip => Ok(()),
@@ -211,8 +191,7 @@ impl Checker<'_> {
                     false => context.joins.joined(|side| side.query_label_by(self.rules, *query)),
                     true => context.joins,
                 };
-                let learned = context.order.learning(*query);
-                let order = learned.as_ref().unwrap_or(context.order);
+                let order = &context.order.knowing(*query);
                 self.statement(first, Context { joins, order, ..context })?;
                 let order = if self.rules.known_in_else { order } else { context.order };
                 self.statement(second, Context { joins, order, ..context })
@@ -251,11 +230,7 @@ impl Checker<'_> {
         }
     }
 
-    fn transaction<O: KnownOrder>(
-        &self,
-        transaction: &Transaction,
-        context: Context<O>,
-    ) -> Result<(), Refusal> {
+    fn transaction(&self, transaction: &Transaction, context: Context) -> Result<(), Refusal> {
         let list = &transaction.list;
         let mut written = Written::anywhere_in(&transaction.body);
         if self.rules.roles_left_out {
@@ -277,7 +252,7 @@ impl Checker<'_> {
     }
 
     /// The context of what an if or while holds.
-    fn under<'a, O>(&self, condition: &Expression, context: Context<'a, O>) -> Context<'a, O> {
+    fn under<'a>(&self, condition: &Expression, context: Context<'a>) -> Context<'a> {
         if self.rules.guard_not_joined {
             return context;
         }

@@ -60,20 +60,6 @@ impl BitOr for Join {
     }
 }
 
-/// The order under a set of known queries, however it is kept.
-pub trait KnownOrder: Sized {
-    /// The order when one more query is known, or none where it is the same.
-    fn learning(&self, query: Query) -> Option<Self>;
-
-    /// Whether a join is at most each of these atoms.
-    fn at_most_each(&self, join: Join, atoms: Join) -> bool;
-
-    /// A join is at most an atom when each of its atoms is.
-    fn at_most(&self, join: Join, atom: Atom) -> bool {
-        self.at_most_each(join, Join::of([atom]))
-    }
-}
-
 /// The order as it is read in the document: for each atom all that are at most it, closed anew with
 /// each query.
 #[derive(Clone, Debug, PartialEq, Eq)]
@@ -133,6 +119,16 @@ impl Order {
         order
     }
 
+    /// A join is at most an atom when each of its atoms is.
+    pub fn at_most(&self, join: Join, atom: Atom) -> bool {
+        self.at_most_each(join, Join::of([atom]))
+    }
+
+    /// Whether a join is at most each of these atoms.
+    pub fn at_most_each(&self, join: Join, atoms: Join) -> bool {
+        atoms.indexes().all(|atom| join.lies_in(self.below[atom]))
+    }
+
     fn put(&mut self, first: Atom, second: Atom) {
         self.below[second.index()].insert(first.index());
     }
@@ -147,16 +143,6 @@ impl Order {
                 }
             }
         }
-    }
-}
-
-impl KnownOrder for Order {
-    fn learning(&self, query: Query) -> Option<Order> {
-        Some(self.knowing(query))
-    }
-
-    fn at_most_each(&self, join: Join, atoms: Join) -> bool {
-        atoms.indexes().all(|atom| join.lies_in(self.below[atom]))
     }
 }
 

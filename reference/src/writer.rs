@@ -6,7 +6,7 @@
 use std::rc::Rc;
 
 use crate::flow::{may_make, Sides, Written};
-use crate::order::{atoms, Join, KnownOrder, Order};
+use crate::order::{atoms, Join, Order};
 use crate::policy::{Policy, Side, SIDES};
 use crate::program::{
     Atom, Expression, Kind, Labels, Mutation, Operator, Program, Query, Statement,

@@ -12,7 +12,7 @@ use reference::flow::check;
 use reference::generate_program::{self, any, live, rich, with_fault, Case};
 use reference::generate_rules::{chain_of_queries, written_elsewhere};
 use reference::largest;
-use reference::order::{atoms, Join, KnownOrder, Order};
+use reference::order::{atoms, Join, Order};
 use reference::policy::Policy;
 use reference::program::{Atom, Form, Program, Query, Refusal, MOST_BYTES};
 use reference::writer::FAULTS;

@@ -36,10 +36,12 @@ pub fn answer(policy: &[u8], program: &[u8], wanted: u32) -> Answer {
     if number != 0 {
         return Answer::refused(number, 0);
     }
-    match program.len() {
-        ..=SMALL => in_small_space(table, program, wanted),
-        ..=MOST_BYTES => in_large_space(table, program, wanted),
-        _ => Answer::refused(10, MOST_BYTES),
+    if program.len() > MOST_BYTES {
+        return Answer::refused(10, MOST_BYTES);
+    }
+    match program.len() <= SMALL {
+        true => in_small_space(table, program, wanted),
+        false => in_large_space(table, program, wanted),
     }
 }
 
