@@ -290,12 +290,25 @@ fn stormy(rng: &mut Rng, roles: u8, near: u8) -> Statement {
     let turn = assign(0, binary(Operator::Sum, variable(0), constant(1)));
     let looped = while_true(turns, block(parts.into_iter().chain([turn])));
     match rng.below(4) {
-        0 => while_true(
-            binary(Operator::Less, variable(1), constant(20)),
-            block([transaction(list, block([looped, counted.clone()])), counted]),
-        ),
+        0 => again_and_again(rng, list, roles, near),
         _ => transaction(list, looped),
     }
+}
+
+/// Turns of two transactions, of which the second lists nothing: what it does shows when the first begins
+/// again, with what was known of its queries.
+fn again_and_again(rng: &mut Rng, list: Vec<Query>, roles: u8, near: u8) -> Statement {
+    let few = |rng: &mut Rng| update((0..1 + rng.below(3)).map(|_| any_mutation(rng, roles, near)));
+    let asked = match list.is_empty() {
+        true => few(rng),
+        false => ask(*rng.pick(&list), few(rng), skip()),
+    };
+    let (first, second) = (few(rng), few(rng));
+    let counted = assign(1, binary(Operator::Sum, variable(1), constant(1)));
+    while_true(
+        binary(Operator::Less, variable(1), constant(12)),
+        block([transaction(list, block([asked, first])), transaction([], second), counted]),
+    )
 }
 
 fn any_mutation(rng: &mut Rng, roles: u8, near: u8) -> Mutation {
