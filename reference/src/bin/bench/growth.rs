@@ -37,7 +37,16 @@ pub fn rows(table: &mut Table) {
     row(table, "query, 64 roles, dense, against 1", [asked(dense()), asked(one())]);
     row(table, "start, 3,900 bytes not run against 4", [MUCH, LITTLE].map(|size| starts(size, 3)));
     row(table, "start, 64 variables against 3", [64, 3].map(|variables| starts(LITTLE, variables)));
-    row(table, "start, updates not run against none", [130, 0].map(starts_by_updates));
+    row(
+        table,
+        "start, updates not run against none",
+        [130, 0].map(|count| starts_by_updates(count, 64)),
+    );
+    row(
+        table,
+        "start that may roll back, 64 variables against 3",
+        [64, 3].map(|variables| starts_by_updates(130, variables)),
+    );
     row(table, "update, none listed, 64 roles against 1", [unlisted(chain()), unlisted(one())]);
 }
 
@@ -83,13 +92,13 @@ fn starts(bytes: usize, variables: usize) -> [Input; 2] {
 
 /// In each turn a transaction that lists queries and holds so many updates and assignments of all
 /// variables, of which it runs a skip.
-fn starts_by_updates(count: usize) -> [Input; 2] {
+fn starts_by_updates(count: usize, variables: usize) -> [Input; 2] {
     let written = |index: usize| match index % 2 {
         0 => update([mutation(Kind::AddMember, 0, 0); 5]),
-        _ => assign((index / 2 % 64) as u8, constant(1)),
+        _ => assign((index / 2 % variables) as u8, constant(1)),
     };
     let body = || if_else(variable(1), blocks(count, written), skip());
-    each_turn(64, || transaction(about_one_role(), body()))
+    each_turn(variables, || transaction(about_one_role(), body()))
 }
 
 fn each_turn(variables: usize, part: impl Fn() -> Statement) -> [Input; 2] {
