@@ -148,6 +148,10 @@ differ-is (suc x) (suc y) = omega (arith, differ-is x y)
 bit-xor : (a b i : ℕ) → bit (bitXor a b) i ≡ (bit a i - bit b i) + (bit b i - bit a i)
 bit-xor a b i = rw (xor-shr a b i) (omega (arith, xor-step (a / 2 ^ i) (b / 2 ^ i), differ-is (a / 2 ^ i % 2) (b / 2 ^ i % 2)))
 
+-- where b lies in a, the numbers in which they differ are those of a that are not in b
+pub xor-has : (a b i : ℕ) → (has b i ≡ true → has a i ≡ true) → has (bitXor a b) i ≡ true → (has a i ≡ true) × (has b i ≡ false)
+xor-has a b i f h = ⊎-elim (λ y. absurd (let k = f y in omega (bits, bit-xor a b i))) (λ n. (omega (bits, bit-xor a b i), n)) (true-or-false (has b i))
+
 -- taking a member's power off flips its bit
 minus-xor : (a i : ℕ) → has a i ≡ true → a - 2 ^ i ≡ bitXor a (2 ^ i)
 minus-xor a i h =

@@ -174,28 +174,11 @@ pub ruleset all-laws = (roles-inside, roles-count, roles-part)
 
 pub ruleset sets-laws = (takes-fitting, columns-same, rounds-meanings)
 
--- one role's set among those of all
-pub set-is : (s w : List ℕ) (r : ℕ) → w ≡ meanings s → getD w r 0 ≡ meaning s r
-unfolding meaning
-set-is s w r e = ap (λ (l : List ℕ). getD l r 0) e
-
 pub meanings-length : (s : List ℕ) → length (meanings s) ≡ roles s
 unfolding meanings
 meanings-length s =
     let c = column-length (takes s) (roles s) in
     rounds-length (column (takes s) (roles s)) (column (members s) (roles s)) (column-length (members s) (roles s) ∙ sym c) (roles s) ∙ c
-
-pub set-there : (s w : List ℕ) (r : ℕ) → w ≡ meanings s → r < roles s → r < length w
-set-there s w r e l = omega (arith, ap length e, meanings-length s)
-
--- the part that a policy's roles need, of words for as many as there may be
-pub part-count : (w : List ℕ) (n : ℕ) → length w ≡ roleLimit → n ≤ roleLimit → n ≡ length (take n w)
-part-count w n l h = sym (length-take-le n w (omega arith))
-
-pub part-length : (w : List ℕ) (n k : ℕ) → length w ≡ roleLimit → n ≤ roleLimit → n ≡ k → length (take n w) ≡ k
-part-length w n k l h e = sym (part-count w n l h) ∙ e
-
-pub ruleset set-laws = (set-is, set-there, part-count, part-length)
 
 -- asking for a meaning
 module _ (s : List ℕ) (r k : ℕ) (p : k ≡ policyNumber s) where
@@ -212,8 +195,8 @@ module _ (s : List ℕ) (r k : ℕ) (p : k ≡ policyNumber s) where
 
     -- R was read as m, and is wider as n
     module _ (m n : ℕ) (d : m ≡ roles s) (e : n ≡ m) where
-      pub asked-few : n ≤ roleLimit
-      asked-few = omega (arith, accepted-facts s asked-accepted .roles-fit)
+      pub asked-there : r < n → r < roles s
+      asked-there h = omega arith
 
       pub asked-none : n ≤ r → answer 7 0 ≡ meaningOf s r
       unfolding meaningOf
@@ -223,4 +206,4 @@ module _ (s : List ℕ) (r k : ℕ) (p : k ≡ policyNumber s) where
       unfolding meaningOf
       asked-found h x y = let l : r < roles s = omega arith in rw y (simp (eq-eqb _ _ (sym p ∙ z), lt-ltb _ _ l))
 
-pub ruleset asked = (asked-refused, asked-accepted, asked-head, asked-few, asked-none, asked-found)
+pub ruleset asked = (asked-refused, asked-accepted, asked-head, asked-there, asked-none, asked-found)

@@ -114,15 +114,24 @@ pub fn all_meanings(policy: &[u8], sets: &mut [u32])
     least_sets(policy, &mut words[..n], sets);
 }
 
-// The least set of a role that there is.
-fn least_set(policy: &[u8], n: usize, role: usize) -> u32
-    requires { ⌜ (n ≡ roles (now policy)) × Accepted (now policy) × (role < roles (now policy)) × (n ≤ roleLimit) ⌝ }
+// The least set of a role that there is: the members of each role that is reached from it, of which each is looked at once.
+fn least_set(policy: &[u8], role: usize) -> u32
+    requires { ⌜ (Accepted (now policy)) × (role < roles (now policy)) ⌝ }
     ensures { λ r. ⌜ r ≡ meaning (now (policy .entry)) role ⌝ }
 {
-    let mut sets = [0u32; limit::ROLES as usize];
-    let part = &mut sets[..n];
-    all_meanings(policy, part);
-    part[role]
+    let mut seen = sets::single(role as u64);
+    let mut done = 0;
+    let mut bits = 0;
+    let mut left = seen;
+    while 0 < left {
+        let j = sets::lowest(left);
+        let row = sets::with(rows::takes_of(policy, j as usize), j);
+        seen = seen | row;
+        done = sets::with(done, j);
+        bits = bits | rows::members_of(policy, j as usize);
+        left = seen ^ done;
+    }
+    bits
 }
 
 // The meaning of a role under a policy: any bytes, any role number.
@@ -142,6 +151,6 @@ pub fn meaning_of(policy: &[u8], role: u32) -> Meaning
     }
     Meaning {
         number: number::ACCEPTED,
-        bits: least_set(policy, roles as usize, role as usize),
+        bits: least_set(policy, role as usize),
     }
 }

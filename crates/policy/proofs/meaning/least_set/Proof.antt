@@ -1,14 +1,32 @@
-use Rattle.policy.proofs.MeaningLaws.{set-laws}
+-- Whatever is left, the search stands; each turn it is done with one role more.
+use Rattle.policy.specs.Reach.{Reached}
+use Rattle.model.specs.Policy.{roles}
+use lib.Bits.{bitXor}
+use Prim.Native.Nat.{_^_, _-_}
+use mathlib.Core.Path.{_≡_}
+use Rattle.policy.proofs.ReachLaws.{set-laws}
 use borrow.Author.Needs.{needs}
 use Rattle.policy.proofs.meaning.least_set.Statement.{statement}
 use Rattle.policy.proofs.meaning.least_set.Tie as tie
+
+abbrev Inv-loop : tie.InvT-loop
+Inv-loop policy role seen₀ done₀ bits₀ left₀ seen done bits left = Reached policy role seen done bits × (left ≡ bitXor seen done)
+
+abbrev μ-loop : tie.MeasureT-loop
+μ-loop policy role seen₀ done₀ bits₀ left₀ seen done bits left = 2 ^ roles policy - done
 
 pub least-set-spec : {M : Type 1} → statement M
 least-set-spec =
     tie.close
     (tie.spec
+    Inv-loop
+    μ-loop
+    (λ c κs. search (needs, set-laws))
     (λ c. search (needs, set-laws))
-    (λ c. search (needs, set-laws))
+    (λ c κs. search (needs, set-laws))
+    (λ c κs. search (needs, set-laws))
+    (λ c κs. search (needs, set-laws))
+    (λ c κs. search (needs, set-laws))
     (λ c κs. search (needs, set-laws))
     (λ c. search (needs, set-laws))
     (λ c. search (needs, set-laws))
