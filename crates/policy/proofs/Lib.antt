@@ -2,5 +2,5 @@ mod RowLaws
 mod CheckLaws
 mod TakesLaws
 mod PairLaws
-mod ReachLaws
 pub mod MeaningLaws
+mod ReachLaws

@@ -1,35 +1,40 @@
 -- A search goes on by what another has from a role that it has seen. Once it is done with all that it has seen, its bits are closed over those, so they are the role's meaning.
 use mathlib.Core.Path.{_≡_, refl, sym, ap, _∙_}
 use mathlib.Core.Logic.{_⊎_, inl, inr, ⊎-elim}
-use Prim.Native.Nat.{ℕ, _-_, _^_, _<_, _≤_}
+use Prim.Native.Nat.{ℕ, _+_, _-_, _/_, _^_, _<_, _≤_}
 use mathlib.Core.List.{List}
 use mathlib.Core.Bool.{Bool, true, false, true≢false}
 use native.Mathlib.Omega.{arith}
 use native.Mathlib.Decide.{decLt}
+use native.Mathlib.Nat.{pow-suc, div-eq-of-lt-le}
 use lib.Bits.{bitOr, bitXor, or-lt, and-le-l, and-le-r, xor-add-and, xor-zero-r}
-use lib.Pow.{pow-lt}
+use lib.Count.{leadingZeros, leading-top}
+use lib.ListN.{length, getD, set, length-set}
+use lib.Pow.{pow-lt, shr-shr}
+use lib.Seq.{getD-set-same, getD-set-other, ext-getD}
 use borrow.Author.Tests.{eq-eqb}
+use Rattle.model.specs.Limits.{roleLimit}
 use Rattle.model.specs.Sets.{has, with}
 use Rattle.model.specs.Policy.{roles, HasRow, members, takes, Accepted}
-use Rattle.model.specs.Meaning.{meaning}
+use Rattle.model.specs.Meaning.{meanings, meaning}
 use Rattle.model.proofs.Accepted.{accepted-facts}
 use Rattle.model.proofs.Rows.{accepted-row}
 use Rattle.model.proofs.Sets.{has-zero, has-or-l, has-or-r, or-has, has-below, power-is, has-power, has-with-same, with-has, with-below, xor-has, subset-le, same-sets}
 use Rattle.model.proofs.Least.{meaning-closed, meaning-least}
-use Rattle.shared.specs.Words.{single}
-use Rattle.shared.proofs.SetLaws.{single-is}
-use Rattle.policy.specs.Reach.{Reached}
+use Rattle.policy.proofs.TakesLaws.{same-or}
+use Rattle.policy.proofs.MeaningLaws.{meanings-length}
+use Rattle.policy.specs.Reach.{Reached, Found, Searches}
 
 none-in : (j : ℕ) → has 0 j ≡ true → ⊥
 none-in j h = true≢false (sym h ∙ has-zero j)
 
 -- a number is in the set of it alone
-pub power-in : (j : ℕ) → has (2 ^ j) j ≡ true
+power-in : (j : ℕ) → has (2 ^ j) j ≡ true
 power-in j = has-power j j ∙ eq-eqb j j refl
 
 -- a search begins with the role itself
-pub begun : (s : List ℕ) (r one : ℕ) → Accepted s → r < roles s → one ≡ single r → Reached s r one 0 0
-begun s r one ok l e = rw (e, single-is r (omega (arith, accepted-facts s ok .roles-fit))) (record {
+pub begun : (s : List ℕ) (r one : ℕ) → r < roles s → one ≡ with 0 r → Reached s r one 0 0
+begun s r one l e = rw e (record {
   start = power-in r;
   inside = pow-lt l;
   done-seen = λ j d. absurd (none-in j d);
@@ -39,24 +44,31 @@ begun s r one ok l e = rw (e, single-is r (omega (arith, accepted-facts s ok .ro
   done-taken = λ j k d. absurd (none-in j d);
 })
 
--- what a role's row says is a search from it that is done with the row
-pub row-reached : (s : List ℕ) → Accepted s → (j : ℕ) → j < roles s → Reached s j (with (takes s j) j) (2 ^ j) (members s j)
-row-reached s ok j l = record {
-  start = has-with-same (takes s j) j;
-  inside = with-below (roles s) (takes s j) j fits l;
-  done-seen = λ i d. rw (power-is j i d) (has-with-same (takes s j) j);
-  seen-means = λ i p h m. ⊎-elim (λ e. rw e at m) (λ t. meaning-closed s .taken j i p l (has-below (roles s) (takes s j) i fits t) t m) (with-has (takes s j) j i h);
-  bits-means = λ p h. meaning-closed s .own j p l h;
-  done-own = λ i p d h. rw (power-is j i d) at h;
-  done-taken = λ i k d t. has-or-l (takes s j) (2 ^ j) k (rw (power-is j i d) at t);
-}
-  where
-    fits : takes s j < 2 ^ roles s
-    fits = accepted-facts s ok .row j l .takes-below
+-- what a role's row says is a search from it that is done with the role itself
+module _ (s : List ℕ) (ok : Accepted s) (j : ℕ) (l : j < roles s) where
+  pub role-small : j < 64
+  role-small = omega (arith, accepted-facts s ok .roles-fit)
+
+  row-fits : takes s j < 2 ^ roles s
+  row-fits = accepted-facts s ok .row j l .takes-below
+
+  row-reached : Reached s j (with (takes s j) j) (2 ^ j) (members s j)
+  row-reached = record {
+    start = has-with-same (takes s j) j;
+    inside = with-below (roles s) (takes s j) j row-fits l;
+    done-seen = λ i d. rw (power-is j i d) (has-with-same (takes s j) j);
+    seen-means = λ i p h m. ⊎-elim (λ e. rw e at m) (λ t. meaning-closed s .taken j i p l (has-below (roles s) (takes s j) i row-fits t) t m) (with-has (takes s j) j i h);
+    bits-means = λ p h. meaning-closed s .own j p l h;
+    done-own = λ i p d h. rw (power-is j i d) at h;
+    done-taken = λ i k d t. has-or-l (takes s j) (2 ^ j) k (rw (power-is j i d) at t);
+  }
+
+  pub row-found : (takes′ seen done bits : ℕ) → takes′ ≡ takes s j → seen ≡ with takes′ j → done ≡ with 0 j → bits ≡ members s j → Found s j seen done bits
+  row-found takes′ seen done bits t a b c = rw (a, t, b, c) (record { reached = row-reached; self = power-in j })
 
 module _ (s : List ℕ) (r seen done bits : ℕ) (h : Reached s r seen done bits) where
   -- a search takes over another, from a role that it has seen
-  pub joined : (j seen′ done′ bits′ : ℕ) → has seen j ≡ true → Reached s j seen′ done′ bits′ → Reached s r (bitOr seen seen′) (bitOr done done′) (bitOr bits bits′)
+  joined : (j seen′ done′ bits′ : ℕ) → has seen j ≡ true → Reached s j seen′ done′ bits′ → Reached s r (bitOr seen seen′) (bitOr done done′) (bitOr bits bits′)
   joined j seen′ done′ bits′ m g = record {
     start = has-or-l seen seen′ r (h .start);
     inside = or-lt (roles s) seen seen′ (h .inside) (g .inside);
@@ -68,54 +80,192 @@ module _ (s : List ℕ) (r seen done bits : ℕ) (h : Reached s r seen done bits
   }
 
   -- a role that is left
-  module _ (left j : ℕ) (e : left ≡ bitXor seen done) (m : has left j ≡ true) where
+  module _ (j : ℕ) (m : has (bitXor seen done) j ≡ true) where
     left-in : (has seen j ≡ true) × (has done j ≡ false)
-    left-in = xor-has seen done j (h .done-seen j) (rw e at m)
+    left-in = xor-has seen done j (h .done-seen j) m
 
-    pub left-inside : j < roles s
+    left-inside : j < roles s
     left-inside = has-below (roles s) seen j (h .inside) (left-in .0)
 
     pub left-row : Accepted s → HasRow s j
     left-row ok = accepted-row s ok (roles s) j refl left-inside
 
     -- once it is done with it, fewer are left
-    pub left-fewer : (done′ : ℕ) → has done′ j ≡ true → 2 ^ roles s - bitOr done done′ < 2 ^ roles s - done
-    left-fewer done′ d = omega (arith, subset-le done seen (h .done-seen), h .inside, grows)
+    left-fewer : (done′ : ℕ) → has done′ j ≡ true → 2 ^ roles s - bitOr done done′ < 2 ^ roles s - done
+    left-fewer done′ d = omega (arith, subset-le done seen (h .done-seen), h .inside, go (decLt done (bitOr done done′)))
       where
-        grows : done < bitOr done done′
-        grows = go (decLt done (bitOr done done′))
-          where
-            go : Dec (done < bitOr done done′) → done < bitOr done done′
-            go (yes l) = l
-            go (no k) =
-                let same : bitOr done done′ ≡ done = omega (arith, subset-le done (bitOr done done′) (has-or-l done done′)) in
-                absurd (true≢false (sym (has-or-r done done′ j d) ∙ rw same (left-in .1)))
+        go : Dec (done < bitOr done done′) → done < bitOr done done′
+        go (yes l) = l
+        go (no k) =
+            let same : bitOr done done′ ≡ done = omega (arith, subset-le done (bitOr done done′) (has-or-l done done′)) in
+            absurd (true≢false (sym (has-or-r done done′ j d) ∙ rw same (left-in .1)))
 
   -- a search that is done with all that it has seen has the role's meaning
-  pub whole : seen ≡ done → bits ≡ meaning s r
+  whole : seen ≡ done → bits ≡ meaning s r
   whole e = same-sets bits (meaning s r) (h .bits-means) (λ p m. meaning-least s (λ j q. has done j ≡ true → has bits q ≡ true) (record {
     own = λ j q l o d. h .done-own j q d o;
     taken = λ j k q l i t f d. f (rw e at (h .done-taken j k d t));
   }) r p m (rw e at (h .start)))
 
--- nothing is left
-xor-none : (a b : ℕ) → bitXor a b ≡ 0 → a ≡ b
-xor-none a b e = omega (arith, xor-add-and a b, and-le-l a b, and-le-r a b)
+-- what is left, as the code has it: all, or from some role on
+module _ (seen done left : ℕ) where
+  pub left-of : left ≡ bitXor seen done → (j : ℕ) → has left j ≡ true → has (bitXor seen done) j ≡ true
+  left-of e j m = rw e at m
+
+  pub left-from : (i : ℕ) → left ≡ bitXor seen done / 2 ^ i → (j : ℕ) → has left j ≡ true → has (bitXor seen done) (i + j) ≡ true
+  left-from i e j m = rw shr-shr at (rw e at m)
+
+  left-none : left ≡ bitXor seen done → left ≤ 0 → seen ≡ done
+  left-none e z = omega (arith, xor-add-and seen done, and-le-l seen done, and-le-r seen done)
+
+pub left-whole : (s : List ℕ) (r seen done bits left : ℕ) → Reached s r seen done bits → left ≡ bitXor seen done → left ≤ 0 → bits ≡ meaning s r
+left-whole s r seen done bits left h e z = whole s r seen done bits h (left-none seen done left e z)
 
 -- one role's set, row by row
-module _ (s : List ℕ) (ok : Accepted s) (r seen done bits left : ℕ) (h : Reached s r seen done bits) (e : left ≡ bitXor seen done) where
-  pub set-turn : (j takes′ row done′ members′ : ℕ) → has left j ≡ true → takes′ ≡ takes s j → row ≡ with takes′ j → done′ ≡ with done j → members′ ≡ members s j
-      → Reached s r (bitOr seen row) done′ (bitOr bits members′)
-  set-turn j takes′ row done′ members′ m t w d b =
-      rw (d, w, t, b) (joined s r seen done bits h j _ _ _ (left-in s r seen done bits h left j e m .0) (row-reached s ok j (left-inside s r seen done bits h left j e m)))
-
-  pub set-fewer : (j done′ : ℕ) → has left j ≡ true → done′ ≡ with done j → 2 ^ roles s - done′ < 2 ^ roles s - done
-  set-fewer j done′ m d = rw d (left-fewer s r seen done bits h left j e m (2 ^ j) (power-in j))
-
-  pub set-whole : left ≤ 0 → bits ≡ meaning s r
-  set-whole z = let n : left ≡ 0 = omega arith in whole s r seen done bits h (xor-none seen done (sym e ∙ n))
-
 pub set-begun : (one : ℕ) → one ≡ bitXor one 0
 set-begun one = sym (xor-zero-r one)
 
-pub ruleset set-laws = (begun, left-row, set-turn, set-fewer, set-whole, set-begun)
+module _ (s : List ℕ) (r seen done bits left j done′ : ℕ) (h : Reached s r seen done bits) (e : left ≡ bitXor seen done) (m : has left j ≡ true) (d : done′ ≡ with done j) where
+  pub set-turn : Accepted s → (takes′ row members′ : ℕ) → takes′ ≡ takes s j → row ≡ with takes′ j → members′ ≡ members s j → Reached s r (bitOr seen row) done′ (bitOr bits members′)
+  set-turn ok takes′ row members′ t w b =
+      let k = left-of seen done left e j m in
+      rw (d, w, t, b) (joined s r seen done bits h j _ _ _ (left-in s r seen done bits h j k .0) (row-reached s ok j (left-inside s r seen done bits h j k)))
+
+  pub set-fewer : 2 ^ roles s - done′ < 2 ^ roles s - done
+  set-fewer = rw d (left-fewer s r seen done bits h j (left-of seen done left e j m) (2 ^ j) (power-in j))
+
+pub ruleset set-laws = (role-small, begun, left-of, left-row, set-begun, set-turn, set-fewer, left-whole)
+
+-- the highest number in a set
+module _ (a : ℕ) (p : 0 < a) (l : a < 2 ^ 64) where
+  pub highest-room : leadingZeros 64 a ≤ 63
+  highest-room = omega (arith, leading-top 64 a p l .1)
+
+  pub highest-in : has a (63 - leadingZeros 64 a) ≡ true
+  highest-in =
+      let (j, e, low, high) = leading-top 64 a p l in
+      let k : 63 - leadingZeros 64 a ≡ j = omega arith in
+      let q : a / 2 ^ j ≡ 1 = div-eq-of-lt-le (2 ^ j) (omega arith) (omega (arith, pow-suc 2 j)) in
+      rw (k, q)
+
+-- what was put into a place
+set-here : (l : List ℕ) (i r x : ℕ) → i < length l → r ≡ i → getD (set l i x) r 0 ≡ x
+set-here l i r x h e = ap (λ (n : ℕ). getD (set l i x) n 0) e ∙ getD-set-same l i x 0 h
+
+-- searches side by side
+module _ (s : List ℕ) (n : ℕ) (seen done sets : List ℕ) (x : Searches s n seen done sets) where
+  module _ (i : ℕ) (l : i < roles s) where
+    pub seen-inside : i < length seen
+    seen-inside = omega (arith, x .few, x .seen-room)
+
+    pub done-inside : i < length done
+    done-inside = omega (arith, x .few, x .done-room)
+
+    pub sets-inside : i < length sets
+    sets-inside = omega (arith, x .sets-room)
+
+    -- a search put in its role's place
+    module _ (a b c : ℕ) (f : Found s i a b c) where
+      put : (m : ℕ) → ((r : ℕ) → m ≤ r → (r ≡ i → ⊥) → n ≤ r) → Searches s m (set seen i a) (set done i b) (set sets i c)
+      put m inside = record {
+        few = x .few;
+        seen-room = length-set seen i a ∙ x .seen-room;
+        done-room = length-set done i b ∙ x .done-room;
+        sets-room = length-set sets i c ∙ x .sets-room;
+        each = λ r k h. ⊎-elim
+            (λ e. rw (set-here seen i r a seen-inside e, set-here done i r b done-inside e, set-here sets i r c sets-inside e, e) f)
+            (λ q. rw (getD-set-other seen i r a 0 q, getD-set-other done i r b 0 q, getD-set-other sets i r c 0 q) (x .each r (inside r k q) h))
+            (same-or r i);
+      }
+
+      pub put-again : Searches s n (set seen i a) (set done i b) (set sets i c)
+      put-again = put n (λ r k q. k)
+
+  pub role-inside : (i : ℕ) → i < length sets → i < roles s
+  role-inside i l = omega (arith, x .sets-room)
+
+  -- the next role down
+  module _ (h : n ≤ length sets) (p : 0 < n) where
+    pub role-before : n - 1 < roles s
+    role-before = omega (arith, x .sets-room)
+
+    pub from-before : Searches s (n - 1 + 1) seen done sets
+    from-before = let e : n - 1 + 1 ≡ n = omega arith in rw e x
+
+    pub put-before : (a b c : ℕ) → Found s (n - 1) a b c → Searches s (n - 1) (set seen (n - 1) a) (set done (n - 1) b) (set sets (n - 1) c)
+    put-before a b c f = put (n - 1) role-before a b c f (n - 1) (λ r k q. omega arith)
+
+  pub from-first : n ≤ 0 → Searches s 0 seen done sets
+  from-first h = let e : 0 ≡ n = omega arith in rw e x
+
+-- no search yet
+pub none-put : (s seen done sets : List ℕ) → Accepted s → length seen ≡ roleLimit → length done ≡ roleLimit → length sets ≡ roles s → Searches s (roles s) seen done sets
+none-put s seen done sets ok a b c = record {
+  few = accepted-facts s ok .roles-fit;
+  seen-room = a;
+  done-room = b;
+  sets-room = c;
+  each = λ r k h. absurd (omega arith);
+}
+
+pub none-from : (s seen done sets : List ℕ) → Searches s (roles s) seen done sets → Searches s (length sets) seen done sets
+none-from s seen done sets x = rw (x .sets-room) x
+
+pub ruleset down-laws = (seen-inside, done-inside, role-before, from-before, put-before, from-first, none-from)
+
+-- a search from role i, gone on by those from role n on
+module _ (s : List ℕ) (i reached passed bits j : ℕ) (f : Found s i reached passed bits) (m : has (bitXor reached passed) j ≡ true) where
+  pub far-role : j < roles s
+  far-role = left-inside s i reached passed bits (f .reached) j m
+
+  module _ (n : ℕ) (seen done sets : List ℕ) (x : Searches s n seen done sets) (g : n ≤ j) where
+    pub far-turn : Found s i (bitOr reached (getD seen j 0)) (bitOr passed (getD done j 0)) (bitOr bits (getD sets j 0))
+    far-turn = record {
+      reached = joined s i reached passed bits (f .reached) j _ _ _ (left-in s i reached passed bits (f .reached) j m .0) (x .each j g far-role .reached);
+      self = has-or-l passed (getD done j 0) i (f .self);
+    }
+
+    pub far-fewer : 2 ^ roles s - bitOr passed (getD done j 0) < 2 ^ roles s - passed
+    far-fewer = left-fewer s i reached passed bits (f .reached) j m (getD done j 0) (x .each j g far-role .self)
+
+-- what is left from its own role on lies above it
+pub far-above : (s : List ℕ) (i reached passed bits k : ℕ) → Found s i reached passed bits → has (bitXor reached passed) (i + k) ≡ true → i + 1 ≤ i + k
+far-above s i reached passed bits k f m = go (same-or k 0)
+  where
+    go : (k ≡ 0) ⊎ (k ≡ 0 → ⊥) → i + 1 ≤ i + k
+    go (inl e) =
+        let z : i + k ≡ i = omega arith in
+        absurd (true≢false (sym (f .self) ∙ left-in s i reached passed bits (f .reached) i (rw z at m) .1))
+    go (inr q) = omega arith
+
+pub ruleset far-laws = (seen-inside, done-inside, sets-inside, far-role, far-turn, far-fewer)
+
+pub ruleset above-laws = (accepted-row, role-small, row-found, left-from, far-above)
+
+pub all-begun : (s seen done sets : List ℕ) (i : ℕ) → Searches s 0 seen done sets → i < roles s → Found s i (getD seen i 0) (getD done i 0) (getD sets i 0)
+all-begun s seen done sets i x l = x .each i (omega arith) l
+
+pub ruleset on-laws = (all-begun, left-of, left-whole)
+
+-- the first i sets are meanings
+unfoldable pub Told : List ℕ → List ℕ → ℕ → Type 0
+Told s sets i = (r : ℕ) → r < i → getD sets r 0 ≡ meaning s r
+
+pub told-none : (s sets : List ℕ) → Told s sets 0
+unfolding Told
+told-none s sets r l = absurd (omega arith)
+
+pub told-next : (s sets : List ℕ) (i bits : ℕ) → Told s sets i → i < length sets → bits ≡ meaning s i → Told s (set sets i bits) (i + 1)
+unfolding Told
+told-next s sets i bits t l e r k = ⊎-elim
+    (λ q. set-here sets i r bits l q ∙ rw q e)
+    (λ q. getD-set-other sets i r bits 0 q ∙ t r (omega arith))
+    (same-or r i)
+
+pub told-all : (s sets : List ℕ) (i : ℕ) → Told s sets i → length sets ≡ roles s → length sets ≤ i → sets ≡ meanings s
+unfolding Told meaning
+told-all s sets i t n l = ext-getD 0 sets (meanings s) (n ∙ sym (meanings-length s)) (λ r k. t r (omega arith))
+
+pub ruleset told-laws = (told-none, told-next, told-all)
+
+pub ruleset up-laws = (seen-inside, done-inside, role-inside, put-again)

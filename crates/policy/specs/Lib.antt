@@ -1,4 +1,3 @@
 pub mod Pairs
 pub mod Reach
-pub mod Rounds
 pub mod Takable

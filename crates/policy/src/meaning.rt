@@ -1,12 +1,12 @@
 // The meaning of a role: the least sets where each role holds its members and all that the roles it takes hold.
 ghost use mathlib.Core.Path.{_≡_};
-ghost use Prim.Native.Nat.{_^_, _<_, _≤_};
-ghost use lib.Bits.{bitOr};
+ghost use mathlib.Core.Bool.{true};
+ghost use Prim.Native.Nat.{_+_, _<_};
 ghost use lib.ListN.{length};
-ghost use Rattle.model.specs.Limits.{roleLimit};
-ghost use Rattle.model.specs.Policy.{roles, members, takes, Accepted};
-ghost use Rattle.model.specs.Meaning.{gather, steps, rounds, column, meanings, meaning, answer, meaningOf};
-ghost use Rattle.policy.specs.Rounds.{Still, Fitting};
+ghost use Rattle.model.specs.Sets.{has};
+ghost use Rattle.model.specs.Policy.{roles, Accepted};
+ghost use Rattle.model.specs.Meaning.{meanings, meaning, answer, meaningOf};
+ghost use Rattle.policy.specs.Reach.{Found, Searches};
 use super::check;
 use super::rows;
 use shared::bytes;
@@ -20,88 +20,106 @@ pub struct Meaning {
     pub bits: u32,
 }
 
-// `own` with the sets of the roles in `row`. Only the roles that are in it are visited.
-fn with_taken(sets: &[u32], own: u32, row: u64) -> u32
-    requires { ⌜ row < 2 ^ length (now sets) ⌝ }
-    ensures { λ r. ⌜ r ≡ bitOr own (gather (now (sets .entry)) row (length (now (sets .entry)))) ⌝ }
-{
-    let mut union = own;
-    let mut rest = row;
-    while 0 < rest {
-        let j = sets::lowest(rest);
-        union = union | sets[j as usize];
-        rest = sets::without_lowest(rest);
-    }
-    union
+// How far the search from a role has come: the roles that it has seen, those of them that it is done with, and their bits.
+struct Search {
+    seen: u64,
+    done: u64,
+    bits: u32,
 }
 
-// One round over all rows, in place. False when no set grew.
-fn round(takes: &[u64], sets: &mut [u32]) -> bool
-    requires { ⌜ (length (now sets) ≡ length (now takes)) × Fitting (now takes) ⌝ }
-    ensures now_sets { λ r. ⌜ now (sets .exit) ≡ steps (now (takes .entry)) (now (sets .entry)) (length (now (takes .entry))) ⌝ }
-    ensures still { λ r. ⌜ Still r (now (sets .entry)) (now (sets .exit)) ⌝ }
+// The highest number in a set that has one.
+fn highest(a: u64) -> u64
+    requires { ⌜ 0 < a ⌝ }
+    ensures { λ r. ⌜ has a r ≡ true ⌝ }
 {
-    let mut grew = false;
-    let mut i = 0;
-    while i < sets.len() {
-        let old = sets[i];
-        let new = with_taken(sets, old, takes[i]);
-        sets[i] = new;
-        if new != old {
-            grew = true;
-        }
-        i += 1;
-    }
-    grew
+    63 - u64::leading_zeros(a) as u64
 }
 
-// As many rounds as there are roles, or fewer where a round adds nothing.
-fn all_rounds(takes: &[u64], sets: &mut [u32])
-    requires { ⌜ (length (now sets) ≡ length (now takes)) × Fitting (now takes) ⌝ }
-    ensures { λ _. ⌜ now (sets .exit) ≡ rounds (now (takes .entry)) (now (sets .entry)) (length (now (takes .entry))) ⌝ }
+// The search from role i, gone on by the searches from the roles above it. The lowest comes first: it has gone on most.
+fn with_above(policy: &[u8], i: usize, seen: &[u64], done: &[u64], sets: &[u32]) -> Search
+    requires { ⌜ (Searches (now policy) (i + 1) (now seen) (now done) (now sets)) × (Accepted (now policy)) × (i < roles (now policy)) ⌝ }
+    ensures { λ r. ⌜ Found (now (policy .entry)) i (r .seen) (r .done) (r .bits) ⌝ }
 {
-    let mut n = 0;
-    while n < sets.len() {
-        if round(takes, sets) {
-            n += 1;
-        } else {
-            return;
-        }
+    let mut reached = sets::with(rows::takes_of(policy, i), i as u64);
+    let mut passed = sets::with(0, i as u64);
+    let mut bits = rows::members_of(policy, i);
+    let mut left = (reached ^ passed) >> i;
+    while 0 < left {
+        let j = i + sets::lowest(left) as usize;
+        reached = reached | seen[j];
+        passed = passed | done[j];
+        bits = bits | sets[j];
+        left = (reached ^ passed) >> i;
+    }
+    Search {
+        seen: reached,
+        done: passed,
+        bits,
     }
 }
 
-// The members of each row: the sets to start from.
-fn load_members(policy: &[u8], sets: &mut [u32])
-    requires { ⌜ (length (now sets) ≡ roles (now policy)) × Accepted (now policy) ⌝ }
-    ensures { λ _. ⌜ now (sets .exit) ≡ column (members (now (policy .entry))) (roles (now (policy .entry))) ⌝ }
+// The search from role i, gone on until nothing is left. The highest comes first: where only roles below i are left, it has gone on most.
+fn with_all(policy: &[u8], i: usize, seen: &[u64], done: &[u64], sets: &[u32]) -> Search
+    requires { ⌜ (Searches (now policy) 0 (now seen) (now done) (now sets)) × (i < roles (now policy)) ⌝ }
+    ensures found { λ r. ⌜ Found (now (policy .entry)) i (r .seen) (r .done) (r .bits) ⌝ }
+    ensures whole { λ r. ⌜ r .bits ≡ meaning (now (policy .entry)) i ⌝ }
 {
-    let mut i = 0;
-    while i < sets.len() {
-        sets[i] = rows::members_of(policy, i);
-        i += 1;
+    let mut reached = seen[i];
+    let mut passed = done[i];
+    let mut bits = sets[i];
+    let mut left = reached ^ passed;
+    while 0 < left {
+        let j = highest(left) as usize;
+        reached = reached | seen[j];
+        passed = passed | done[j];
+        bits = bits | sets[j];
+        left = reached ^ passed;
+    }
+    Search {
+        seen: reached,
+        done: passed,
+        bits,
     }
 }
 
-// What each row takes in, as words side by side: every round reads them.
-fn load_takes(policy: &[u8], words: &mut [u64])
-    requires { ⌜ (length (now words) ≡ roles (now policy)) × Accepted (now policy) ⌝ }
-    ensures { λ _. ⌜ now (words .exit) ≡ column (takes (now (policy .entry))) (roles (now (policy .entry))) ⌝ }
+// The searches from the last role down, each gone on by those before it: none has a role above its own left.
+fn look_above(policy: &[u8], seen: &mut [u64], done: &mut [u64], sets: &mut [u32])
+    requires { ⌜ (Searches (now policy) (roles (now policy)) (now seen) (now done) (now sets)) × Accepted (now policy) ⌝ }
+    ensures { λ _. ⌜ Searches (now (policy .entry)) 0 (now (seen .exit)) (now (done .exit)) (now (sets .exit)) ⌝ }
 {
-    let mut i = 0;
-    while i < words.len() {
-        words[i] = rows::takes_of(policy, i);
-        i += 1;
+    let mut i = sets.len();
+    while 0 < i {
+        let row = i - 1;
+        let far = with_above(policy, row, seen, done, sets);
+        seen[row] = far.seen;
+        done[row] = far.done;
+        sets[row] = far.bits;
+        i = row;
     }
 }
 
-// The least sets of all roles.
-fn least_sets(policy: &[u8], words: &mut [u64], sets: &mut [u32])
-    requires { ⌜ (length (now words) ≡ roles (now policy)) × (length (now sets) ≡ roles (now policy)) × Accepted (now policy) ⌝ }
+// Each search from the first role's up goes on until nothing is left.
+fn look_on(policy: &[u8], seen: &mut [u64], done: &mut [u64], sets: &mut [u32])
+    requires { ⌜ Searches (now policy) 0 (now seen) (now done) (now sets) ⌝ }
     ensures { λ _. ⌜ now (sets .exit) ≡ meanings (now (policy .entry)) ⌝ }
 {
-    load_takes(policy, words);
-    load_members(policy, sets);
-    all_rounds(words, sets);
+    let mut i = 0;
+    while i < sets.len() {
+        let far = with_all(policy, i, seen, done, sets);
+        seen[i] = far.seen;
+        done[i] = far.done;
+        sets[i] = far.bits;
+        i += 1;
+    }
+}
+
+// The least sets of all roles. Down and then up again, each search meets those that have gone on most, whichever way the takes lead.
+fn least_sets(policy: &[u8], seen: &mut [u64], done: &mut [u64], sets: &mut [u32])
+    requires { ⌜ (Searches (now policy) (roles (now policy)) (now seen) (now done) (now sets)) × Accepted (now policy) ⌝ }
+    ensures { λ _. ⌜ now (sets .exit) ≡ meanings (now (policy .entry)) ⌝ }
+{
+    look_above(policy, seen, done, sets);
+    look_on(policy, seen, done, sets);
 }
 
 // The meanings of all roles, a word for each.
@@ -109,9 +127,9 @@ pub fn all_meanings(policy: &[u8], sets: &mut [u32])
     requires { ⌜ (length (now sets) ≡ roles (now policy)) × Accepted (now policy) ⌝ }
     ensures { λ _. ⌜ now (sets .exit) ≡ meanings (now (policy .entry)) ⌝ }
 {
-    let n = sets.len();
-    let mut words = [0u64; limit::ROLES as usize];
-    least_sets(policy, &mut words[..n], sets);
+    let mut seen = [0u64; limit::ROLES as usize];
+    let mut done = [0u64; limit::ROLES as usize];
+    least_sets(policy, &mut seen, &mut done, sets);
 }
 
 // The least set of a role that there is: the members of each role that is reached from it, of which each is looked at once.
@@ -119,7 +137,7 @@ fn least_set(policy: &[u8], role: usize) -> u32
     requires { ⌜ (Accepted (now policy)) × (role < roles (now policy)) ⌝ }
     ensures { λ r. ⌜ r ≡ meaning (now (policy .entry)) role ⌝ }
 {
-    let mut seen = sets::single(role as u64);
+    let mut seen = sets::with(0, role as u64);
     let mut done = 0;
     let mut bits = 0;
     let mut left = seen;

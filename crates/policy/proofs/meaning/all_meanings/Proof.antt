@@ -1,4 +1,4 @@
-use Rattle.policy.proofs.MeaningLaws.{all-laws}
+use Rattle.policy.proofs.ReachLaws.{none-put}
 use borrow.Author.Needs.{needs}
 use Rattle.policy.proofs.meaning.all_meanings.Statement.{statement}
 use Rattle.policy.proofs.meaning.all_meanings.Tie as tie
@@ -7,8 +7,8 @@ pub all-meanings-spec : {M : Type 1} → statement M
 all-meanings-spec =
     tie.close
     (tie.spec
-    (λ c. search (needs, all-laws))
-    (λ c. search (needs, all-laws))
-    (λ c κs. search (needs, all-laws))
-    (λ c. search (needs, all-laws))
-    (λ c. search (needs, all-laws)))
+    (λ c. search needs)
+    (λ c. search needs)
+    (λ c κs. search (needs, none-put))
+    (λ c. search needs)
+    (λ c. search needs))
