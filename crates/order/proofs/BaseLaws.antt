@@ -11,7 +11,8 @@ use lib.Pow.{pow-pos}
 use lib.Bits.{bitOr, and-mask}
 use lib.ListN.{length, getD, set, length-set}
 use lib.Seq.{getD-set-same, getD-set-other}
-use borrow.Author.Tests.{eq-eqb}
+use borrow.Author.Tests.{eq-eqb, eqb-true}
+use lib.Dec.{eqb}
 use Rattle.model.specs.Limits.{headBytes, roleLimit}
 use Rattle.model.specs.Sets.{has, within, with}
 use Rattle.model.specs.Policy.{Side, reading, trust, principals, roles, viewers, trusters, watchers, Accepted}
@@ -29,7 +30,7 @@ use Rattle.shared.proofs.SetLaws.{single-is}
 use Rattle.order.specs.declared.table.Row.{Row}
 use Rattle.program.specs.Layout.{sideOf}
 use Rattle.order.specs.Table.{viewersAt, trustersAt, everyoneAt, tableWords, rowOf, rowIn, putRow, holds, union, withRole, rowHas, Knows}
-use Rattle.order.specs.Base.{Loaded, WordsOf, holders, fixedRow, RoleRows, Based}
+use Rattle.order.specs.Base.{Loaded, WordsOf, holders, fixedRow, RoleRows, FixedRows, RowsCopied, FindsRepeated, LastRows, Based}
 use Rattle.order.proofs.TableLaws.{put-long, put-same, put-other, holds-union}
 
 -- the watchers that a flag names
@@ -181,21 +182,66 @@ pub role-row : (v w z r : Row) (j : ℕ) → z ≡ union v w → r ≡ withRole 
 role-row v w z r j e f = f ∙ rw e
 
 -- three rows written one after the other
-pub role-written : (v w : List ℕ) (n j : ℕ) (x y m : Row) (t t₁ t₂ u : List ℕ) → length t ≡ tableWords → j < n → n ≤ roleLimit
-    → x ≡ fixedRow v w n (getD v j 0) → y ≡ fixedRow v w n (getD w j 0) → m ≡ withRole (union x y) j
-    → t₁ ≡ putRow t j m → t₂ ≡ putRow t₁ (viewersAt + j) x → u ≡ putRow t₂ (trustersAt + j) y → RoleRows v w n j t u
-role-written v w n j x y m t t₁ t₂ u long l k p q g e f h =
+pub role-written : (x y m : Row) (j : ℕ) (t t₁ t₂ u : List ℕ) → length t ≡ tableWords → j < roleLimit → m ≡ withRole (union x y) j
+    → t₁ ≡ putRow t j m → t₂ ≡ putRow t₁ (viewersAt + j) x → u ≡ putRow t₂ (trustersAt + j) y → RoleRows x y j t u
+role-written x y m j t t₁ t₂ u long l g e f h =
     let long₁ = put-long t t₁ j m long e in
     let long₂ = put-long t₁ t₂ (viewersAt + j) x long₁ f in
     record {
       long = put-long t₂ u (trustersAt + j) y long₂ h;
-      viewers-row = put-other t₂ u (trustersAt + j) y long₂ h (viewersAt + j) (λ o. omega arith) ∙ put-same t₁ t₂ (viewersAt + j) x long₁ f (omega arith) ∙ p;
-      trusters-row = put-same t₂ u (trustersAt + j) y long₂ h (omega arith) ∙ q;
+      viewers-row = put-other t₂ u (trustersAt + j) y long₂ h (viewersAt + j) (λ o. omega arith) ∙ put-same t₁ t₂ (viewersAt + j) x long₁ f (omega arith);
+      trusters-row = put-same t₂ u (trustersAt + j) y long₂ h (omega arith);
       role-row =
           put-other t₂ u (trustersAt + j) y long₂ h j (λ o. omega arith) ∙ put-other t₁ t₂ (viewersAt + j) x long₁ f j (λ o. omega arith)
-          ∙ put-same t t₁ j m long e (omega arith) ∙ g ∙ rw (p, q);
+          ∙ put-same t t₁ j m long e (omega arith) ∙ g;
       others = λ z n₁ n₂ n₃. put-other t₂ u (trustersAt + j) y long₂ h z n₃ ∙ put-other t₁ t₂ (viewersAt + j) x long₁ f z n₂ ∙ put-other t t₁ j m long e z n₁;
     }
+
+-- rows by other words for the same
+pub rows-are : (x x′ y y′ : Row) (j : ℕ) (t u : List ℕ) → x ≡ x′ → y ≡ y′ → RoleRows x y j t u → RoleRows x′ y′ j t u
+rows-are x x′ y y′ j t u p q h =
+    record {
+      long = h .long;
+      viewers-row = h .viewers-row ∙ p;
+      trusters-row = h .trusters-row ∙ q;
+      role-row = h .role-row ∙ rw (p, q);
+      others = h .others;
+    }
+
+-- the role before has the same words, or not
+module _ (v w : List ℕ) (j : ℕ) where
+  pub first-new : FindsRepeated v w j false
+  unfolding FindsRepeated
+  first-new e = absurd (false≢true e)
+
+  pub same-words : (b : Bool) → (j ≡ 0 → ⊥) → getD v (j - 1) 0 ≡ getD v j 0 → b ≡ eqb (getD w (j - 1) 0) (getD w j 0) → FindsRepeated v w j b
+  unfolding FindsRepeated
+  same-words b o p d e = record { later = omega arith; viewers-same = p; trusters-same = eqb-true _ _ (sym d ∙ e) }
+
+pub ruleset repeats = (first-new, same-words)
+
+-- rows taken over from a role with the same words are those that the words give
+pub last-none : (v w : List ℕ) (n : ℕ) (t : List ℕ) → LastRows v w n 0 t
+unfolding LastRows
+last-none v w n t i e = absurd (omega arith)
+
+module _ (v w : List ℕ) (n j : ℕ) (t u : List ℕ) where
+  pub last-more : FixedRows v w n j t u → LastRows v w n (j + 1) u
+  unfolding LastRows
+  last-more h i e = let q : i ≡ j = omega arith in (rw q (h .viewers-row), rw q (h .trusters-row))
+
+  pub rows-copied : (b : Bool) → FindsRepeated v w j b → b ≡ true → LastRows v w n j t → RowsCopied j t u → FixedRows v w n j t u
+  unfolding FindsRepeated LastRows
+  rows-copied b f e l h =
+      let r = f e in
+      let (x, y) = l (j - 1) (omega (arith, r .later)) in
+      rows-are _ _ _ _ j t u (x ∙ ap (fixedRow v w n) (r .viewers-same)) (y ∙ ap (fixedRow v w n) (r .trusters-same)) h
+
+pub repeated-later : (v w : List ℕ) (j : ℕ) (b : Bool) → FindsRepeated v w j b → b ≡ true → 0 < j
+unfolding FindsRepeated
+repeated-later v w j b f e = f e .later
+
+pub ruleset copies = (rows-copied, repeated-later)
 
 -- everyone's row, then the rows of role j, its viewers and its trusters
 module _ (s : List ℕ) (ok : Accepted s) (v w : List ℕ) (n : ℕ) (words : WordsOf s n v w) where
@@ -210,7 +256,7 @@ module _ (s : List ℕ) (ok : Accepted s) (v w : List ℕ) (n : ℕ) (words : Wo
       right a (fixed everyone) k m =
           ap (λ (x : Row). holds x a) (put-same t u everyoneAt r l h (omega arith) ∙ g ∙ ap (fixedRow v w n) (d ∙ rw (e, q))) ∙ row-fixed s ok v w n words everyone tt a k
 
-  module _ (t u : List ℕ) (j : ℕ) (l : j < n) (b : Based s j t) (h : RoleRows v w n j t u) where
+  module _ (t u : List ℕ) (j : ℕ) (l : j < n) (b : Based s j t) (h : FixedRows v w n j t u) where
     few : j < roleLimit
     few = omega (arith, accepted-facts s ok .roles-fit, words .roles-are)
 

@@ -1,8 +1,8 @@
 -- How the table with no query known comes about: words read from the fixed part, and rows made from them.
-use Prim.Native.Nat.{ℕ, zero, suc, _+_, _<_}
+use Prim.Native.Nat.{ℕ, zero, suc, _+_, _-_, _<_}
 use mathlib.Core.Path.{_≡_}
 use mathlib.Core.List.{List}
-use mathlib.Core.Bool.{cond}
+use mathlib.Core.Bool.{Bool, true, cond}
 use lib.ListN.{length, getD}
 use Rattle.model.specs.Limits.{roleLimit}
 use Rattle.model.specs.Sets.{within, with}
@@ -33,13 +33,37 @@ holders words low (suc n) = cond (within low (getD words n 0)) (with (holders wo
 abbrev pub fixedRow : List ℕ → List ℕ → ℕ → ℕ → Row
 fixedRow v w n low = record { roles = 0; viewers = holders v low n; trusters = holders w low n }
 
--- u is the table t with new rows for role j, its viewers and its trusters
-pub record RoleRows (v w : List ℕ) (n j : ℕ) (t u : List ℕ) : Type 0 where
+-- u is the table t with new rows for role j, its viewers (x) and its trusters (y)
+pub record RoleRows (x y : Row) (j : ℕ) (t u : List ℕ) : Type 0 where
   pub long : length u ≡ tableWords
-  pub viewers-row : rowIn u (viewersAt + j) ≡ fixedRow v w n (getD v j 0)
-  pub trusters-row : rowIn u (trustersAt + j) ≡ fixedRow v w n (getD w j 0)
-  pub role-row : rowIn u j ≡ withRole (union (fixedRow v w n (getD v j 0)) (fixedRow v w n (getD w j 0))) j
+  pub viewers-row : rowIn u (viewersAt + j) ≡ x
+  pub trusters-row : rowIn u (trustersAt + j) ≡ y
+  pub role-row : rowIn u j ≡ withRole (union x y) j
   pub others : (y : ℕ) → (y ≡ j → ⊥) → (y ≡ viewersAt + j → ⊥) → (y ≡ trustersAt + j → ⊥) → rowIn u y ≡ rowIn t y
+
+-- with those that the words give
+abbrev pub FixedRows : List ℕ → List ℕ → ℕ → ℕ → List ℕ → List ℕ → Type 0
+FixedRows v w n j t u = RoleRows (fixedRow v w n (getD v j 0)) (fixedRow v w n (getD w j 0)) j t u
+
+-- with those of the role before it
+abbrev pub RowsCopied : ℕ → List ℕ → List ℕ → Type 0
+RowsCopied j t u = RoleRows (rowIn t (viewersAt + (j - 1))) (rowIn t (trustersAt + (j - 1))) j t u
+
+-- role j has the words of the role before it
+pub record Repeats (v w : List ℕ) (j : ℕ) : Type 0 where
+  pub later : 0 < j
+  pub viewers-same : getD v (j - 1) 0 ≡ getD v j 0
+  pub trusters-same : getD w (j - 1) 0 ≡ getD w j 0
+
+-- r is true only then
+unfoldable pub FindsRepeated : List ℕ → List ℕ → ℕ → Bool → Type 0
+FindsRepeated v w j r = r ≡ true → Repeats v w j
+
+-- the table t has the rows of the viewers and the trusters of the last of j roles, if there is one
+unfoldable pub LastRows : List ℕ → List ℕ → ℕ → ℕ → List ℕ → Type 0
+LastRows v w n j t =
+    (i : ℕ) → j ≡ i + 1
+    → (rowIn t (viewersAt + i) ≡ fixedRow v w n (getD v i 0)) × (rowIn t (trustersAt + i) ≡ fixedRow v w n (getD w i 0))
 
 -- a table whose rows of everyone and of the first n roles' atoms are those of no known query
 pub record Based (s : List ℕ) (n : ℕ) (t : List ℕ) : Type 0 where

@@ -9,7 +9,7 @@ ghost use Rattle.model.specs.Limits.{roleLimit};
 ghost use Rattle.model.specs.Policy.{Accepted, roles, HasRow, watchers};
 ghost use Rattle.program.specs.Layout.{sideOf};
 ghost use Rattle.order.specs.Table.{tableWords, union, withRole, Knows};
-ghost use Rattle.order.specs.Base.{Loaded, WordsOf, holders, fixedRow, RoleRows, Based};
+ghost use Rattle.order.specs.Base.{Loaded, WordsOf, holders, fixedRow, RoleRows, FixedRows, RowsCopied, FindsRepeated, LastRows, Based};
 use super::table;
 use super::table::Row;
 use policy::rows;
@@ -97,8 +97,18 @@ fn role_row(viewers: Row, trusters: Row, j: u64) -> Row
     table::with_role(table::both(viewers, trusters), j)
 }
 
-// The rows of role j, its viewers and its trusters.
-fn write_role(
+// The rows of role j, its viewers and its trusters, from those of the latter two.
+fn write_role(table: &mut [u64], j: usize, viewers: Row, trusters: Row)
+    requires { ⌜ (length (now table) ≡ tableWords) × (j < roleLimit) ⌝ }
+    ensures { λ _. ⌜ RoleRows viewers trusters j (now (table .entry)) (now (table .exit)) ⌝ }
+{
+    table::write(table, j, role_row(viewers, trusters, j as u64));
+    table::write(table, table::VIEWERS + j, viewers);
+    table::write(table, table::TRUSTERS + j, trusters);
+}
+
+// These rows, made from the words.
+fn make_role(
     table: &mut [u64],
     viewers: &[u64; table::ROLES],
     trusters: &[u64; table::ROLES],
@@ -106,13 +116,54 @@ fn write_role(
     j: usize,
 )
     requires { ⌜ (length (now table) ≡ tableWords) × (count ≤ roleLimit) × (j < count) ⌝ }
-    ensures { λ _. ⌜ RoleRows (now (viewers .entry)) (now (trusters .entry)) count j (now (table .entry)) (now (table .exit)) ⌝ }
+    ensures { λ _. ⌜ FixedRows (now (viewers .entry)) (now (trusters .entry)) count j (now (table .entry)) (now (table .exit)) ⌝ }
 {
     let by_viewers = fixed_row(viewers, trusters, count, viewers[j]);
     let by_trusters = fixed_row(viewers, trusters, count, trusters[j]);
-    table::write(table, j, role_row(by_viewers, by_trusters, j as u64));
-    table::write(table, table::VIEWERS + j, by_viewers);
-    table::write(table, table::TRUSTERS + j, by_trusters);
+    write_role(table, j, by_viewers, by_trusters);
+}
+
+// These rows, taken over from the role before j.
+fn copy_role(table: &mut [u64], j: usize)
+    requires { ⌜ (length (now table) ≡ tableWords) × (0 < j) × (j < roleLimit) ⌝ }
+    ensures { λ _. ⌜ RowsCopied j (now (table .entry)) (now (table .exit)) ⌝ }
+{
+    let before = j - 1;
+    let by_viewers = table::read(table, table::VIEWERS + before);
+    let by_trusters = table::read(table, table::TRUSTERS + before);
+    write_role(table, j, by_viewers, by_trusters);
+}
+
+// Whether role j has the viewers and the trusters of the role before it.
+fn is_repeated(viewers: &[u64; table::ROLES], trusters: &[u64; table::ROLES], j: usize) -> bool
+    requires { ⌜ j < roleLimit ⌝ }
+    ensures { λ r. ⌜ FindsRepeated (now (viewers .entry)) (now (trusters .entry)) j r ⌝ }
+{
+    if j == 0 {
+        return false;
+    }
+    if viewers[j - 1] == viewers[j] {
+        return trusters[j - 1] == trusters[j];
+    }
+    false
+}
+
+// The rows of role j. Many roles have the viewers and the trusters of the role before, and then the same rows.
+fn next_role(
+    table: &mut [u64],
+    viewers: &[u64; table::ROLES],
+    trusters: &[u64; table::ROLES],
+    count: usize,
+    j: usize,
+)
+    requires { ⌜ (length (now table) ≡ tableWords) × (count ≤ roleLimit) × (j < count) × (LastRows (now viewers) (now trusters) count j (now table)) ⌝ }
+    ensures { λ _. ⌜ FixedRows (now (viewers .entry)) (now (trusters .entry)) count j (now (table .entry)) (now (table .exit)) ⌝ }
+{
+    if is_repeated(viewers, trusters, j) {
+        copy_role(table, j);
+    } else {
+        make_role(table, viewers, trusters, count, j);
+    }
 }
 
 // Everyone is all principals.
@@ -148,7 +199,7 @@ fn write_rows(
     write_everyone(policy, table, viewers, trusters, count);
     let mut j = 0;
     while j < count {
-        write_role(table, viewers, trusters, count, j);
+        next_role(table, viewers, trusters, count, j);
         j += 1;
     }
 }
