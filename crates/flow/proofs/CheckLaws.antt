@@ -8,8 +8,9 @@ use native.Mathlib.Nat.{lt-of-lt-of-le}
 use mathlib.Core.List.{List, [], _∷_, _++_, List·Memᴰ·head, List·Memᴰ·tail}
 use mathlib.Core.Bool.{Bool, true, false, true≢false}
 use lib.Bits.{bitOr}
+use lib.Dec.{eqb}
 use lib.ListN.{length}
-use borrow.Author.Tests.{ne-eqb}
+use borrow.Author.Tests.{ne-eqb, eqb-true}
 use Rattle.model.specs.Limits.{roleLimit, expressionDepth}
 use Rattle.model.specs.Number.{Verdict, fine, refused, require, orElse}
 use Rattle.model.specs.Bytes.{byte}
@@ -325,6 +326,16 @@ module _ (s p t : List ℕ) (c : Context) (d at asked : ℕ) (o : QueryOf) (f : 
       learnt-same : (t k : List ℕ) {n m : ℕ} {q q′ : ModelQuery} → n ≡ m → q ≡ q′ → Learnt n t k q → Learnt m t k q′
       learnt-same t k e f l = rw (← e, ← f) l
 
+-- a skip is never refused
+pub skip-code : (p : List ℕ) (at n : ℕ) → n ≡ byte p at → eqb n 0 ≡ eqb (byte p at) 0
+skip-code p at n e = rw e
+
+skip-checked : (s p t : List ℕ) (c : Context) (d at q : ℕ) → byte p at ≡ 0 → q ≡ ahead p at 1 → CheckedAt s p t c d at (At q)
+unfolding CheckedAt flow checkedTo
+skip-checked s p t c d at q code e around known C x end st h fit =
+    let u = skip-parts p (principals s) (roles s) (variables p) d at h code in
+    rw (u .0, u .1, e, ahead-is p at 1 (omega (arith, stmt-there p (principals s) (roles s) (variables p) d at h)))
+
 -- a statement, by its code
 module _ (s p t : List ℕ) (c : Context) (d at : ℕ) where
   -- a block: what is left of it decides
@@ -378,6 +389,9 @@ module _ (s p t : List ℕ) (c : Context) (d at : ℕ) where
             rest-fits = w .1;
             same = u .same ∙ ap (λ (ys : List Stmt). flow s p around known C (blockOf ys)) (v .is) ∙ or-reached _ (flow s p around known C (blockOf (v .tail))) (v .mid) end (reachedBy o) g m (ap reachedBy e);
           }
+
+    pub block-skip : (m : ℕ) (b : Bool) → 0 < left → b ≡ eqb (byte p next) 0 → b ≡ true → m ≡ ahead p next 1 → Blocking (left - 1) m
+    block-skip m b some e h k = block-more some (At m) (skip-checked s p t c (d - 1) next m (eqb-true (byte p next) 0 (sym e ∙ h)) k) m refl
 
   -- an if, a while
   module _ (q : ℕ) (l : Labels) (k : Context) (r : Answer) (e : q ≡ ahead p at 1) (f : LabelsAt p expressionDepth q l) (g : k ≡ withLabels c l) where
@@ -489,10 +503,7 @@ module _ (s p t : List ℕ) (c : Context) (d at : ℕ) where
 
     module _ (code : Statement) (j : o ≡ statement.Is code) where
       pub stmt-skip : (q : ℕ) → code ≡ Skip → q ≡ ahead p at 1 → CheckedAt s p t c d at (At q)
-      unfolding CheckedAt flow checkedTo
-      stmt-skip q k e around known C x end st h fit =
-          let u = skip-parts p (principals s) (roles s) (variables p) d at h (statement-byte (byte p at) o i code j ∙ ap statementByte k) in
-          rw (u .0, u .1, e, ahead-is p at 1 (omega (arith, stmt-there p (principals s) (roles s) (variables p) d at h)))
+      stmt-skip q k e = skip-checked s p t c d at q (statement-byte (byte p at) o i code j ∙ ap statementByte k) e
 
       module _ (r : Answer) where
         pub stmt-assign : code ≡ Assign → AssignAt p t c at r → CheckedAt s p t c d at r

@@ -4,7 +4,9 @@
 ghost use mathlib.Core.Path.{_≡_};
 ghost use mathlib.Core.Bool.{true};
 ghost use Prim.Native.Nat.{_<_};
+ghost use lib.Dec.{eqb};
 ghost use lib.ListN.{length};
+ghost use Rattle.model.specs.Bytes.{byte};
 ghost use Rattle.model.specs.Policy.{Accepted};
 ghost use Rattle.order.specs.Table.{tableWords};
 ghost use Rattle.program.specs.Answer.{reachedBy};
@@ -162,6 +164,14 @@ pub fn check_stmt(
     }
 }
 
+// Whether a skip, code 00, would stand at a position.
+fn is_skip(program: &[u8], at: usize) -> bool
+    ensures { λ r. ⌜ r ≡ eqb (byte (now (program .entry)) at) 0 ⌝ }
+{
+    bytes::byte_at(program, at) == 0
+}
+
+// A skip is passed over here, since a call would cost more than all else of it.
 fn check_block(
     policy: &[u8],
     program: &[u8],
@@ -177,12 +187,17 @@ fn check_block(
     let mut left = bytes::byte_at(program, positions::ahead(program, at, 1));
     let mut next = positions::ahead(program, at, 2);
     while 0 < left {
-        let one = check_stmt(policy, program, table, context, inner, next);
-        let Answer::At(end) = one else {
-            return one;
-        };
-        next = end;
-        left -= 1;
+        if is_skip(program, next) {
+            next = positions::ahead(program, next, 1);
+            left -= 1;
+        } else {
+            let one = check_stmt(policy, program, table, context, inner, next);
+            let Answer::At(end) = one else {
+                return one;
+            };
+            next = end;
+            left -= 1;
+        }
     }
     Answer::At(next)
 }

@@ -1,12 +1,13 @@
 -- A law for each return of statements.rt: the definition goes by the code, with one less of depth for what it holds.
-use mathlib.Core.Path.{_≡_, refl, _∙_}
+use mathlib.Core.Path.{_≡_, refl, sym, _∙_}
 use Prim.Native.Nat.{ℕ, zero, suc, _+_, _-_, _<_, _≤_}
 use mathlib.Core.List.{List}
+use mathlib.Core.Bool.{Bool, true, false, false≢true}
 use native.Mathlib.Omega.{arith}
 use native.Mathlib.Numerals.{sub-one}
 use lib.Dec.{eqb, ltb, leb}
 use lib.ListN.{length}
-use borrow.Author.Tests.{lt-ltb, le-leb, lt-leb}
+use borrow.Author.Tests.{lt-ltb, le-leb, lt-leb, eqb-true}
 use Rattle.model.specs.Limits.{expressionDepth, listLimit}
 use Rattle.model.specs.Number.{programCode}
 use Rattle.model.specs.Bytes.{byte}
@@ -18,10 +19,10 @@ use Rattle.program.specs.declared.codes.Statement.{Statement}
 use Rattle.program.specs.declared.codes.Statement.the-variants.{Skip, Assign, Block, If, While, Query, Update, Transaction}
 use Rattle.program.specs.declared.codes.StatementOf.{StatementOf}
 use Rattle.program.specs.declared.codes.StatementOf.the-variants.{Is, No}
-use Rattle.program.specs.Answer.{reached, stopped, reachedBy, endOf, readAssign, readUpdate}
+use Rattle.program.specs.Answer.{Reached, reached, stopped, reachedBy, endOf, readAssign, readUpdate, FindsSkip}
 use Rattle.program.specs.Codes.{statementOf}
 use Rattle.program.proofs.CodeLaws.{through}
-use Rattle.program.proofs.AnswerLaws.{then-at, then-refused, then-last, then-end, then-same, pick-same, byte-there, byte-missing, many}
+use Rattle.program.proofs.AnswerLaws.{then-at, then-refused, then-last, then-end, then-same, pick-same, byte-there, byte-missing, many, many-more}
 
 -- an assignment
 module _ (s : List ℕ) (v at : ℕ) (a : Answer) (e : reachedBy a ≡ endOf (readBelow s v at)) where
@@ -237,5 +238,28 @@ module _ (s : List ℕ) (P R v d at : ℕ) (f : d ≡ 0 → ⊥) where
         pub stmt-transaction : (place : ℕ) → x ≡ Transaction → reachedBy r ≡ endOf (transactionAt s P R v (readStmt s P R v (d - 1)) place (at + 1)) → reachedBy r ≡ endOf (readStmt s P R v d at)
         unfolding coded
         stmt-transaction place g i = rw (here, h, g) (i ∙ transaction-same s P R v (readStmt s P R v (d - 1)) at place (at + 1))
+
+-- a skip that a block passes over
+module _ (s : List ℕ) (d at : ℕ) where
+  pub skip-not : FindsSkip s d at false
+  unfolding FindsSkip
+  skip-not e = absurd (false≢true e)
+
+  pub skip-is : (b : Bool) → (d ≡ 0 → ⊥) → at < length s → b ≡ eqb (byte s at) 0 → FindsSkip s d at b
+  unfolding FindsSkip
+  skip-is b f l e h = record { deep = f; there = l; code = eqb-true (byte s at) 0 (sym e ∙ h) }
+
+  module _ (b : Bool) (f : FindsSkip s d at b) (h : b ≡ true) where
+    pub skip-there : at < length s
+    unfolding FindsSkip
+    skip-there = f h .there
+
+    pub skip-passed : (P R v i : ℕ) (r : Reached) → endOf (readMany (readStmt s P R v d) i at) ≡ r → 0 < i → endOf (readMany (readStmt s P R v d) (i - 1) (at + 1)) ≡ r
+    unfolding FindsSkip statementOf
+    skip-passed P R v i r e l =
+        let k = f h in
+        many-more (readStmt s P R v d) i at (at + 1) (At (at + 1)) r e l (stmt-skip s P R v d at (k .deep) (k .there) (Is Skip) (rw (k .code)) Skip refl refl) refl
+
+pub ruleset skips = (skip-not, skip-is, skip-passed)
 
 pub ruleset statements = (stmt-deep, stmt-missing, stmt-unknown, stmt-skip, stmt-assign, stmt-block, stmt-if, stmt-while, stmt-query, stmt-update, stmt-transaction)

@@ -1,10 +1,13 @@
 -- What an answer of the code says, and what the model's readings say in the same words.
-use Prim.Native.Nat.{ℕ, suc, _*_}
+use mathlib.Core.Path.{_≡_}
+use Prim.Native.Nat.{ℕ, suc, _*_, _<_}
 use mathlib.Core.List.{List}
-use mathlib.Core.Bool.{cond}
+use mathlib.Core.Bool.{Bool, true, cond}
 use lib.Dec.{ltb, leb}
+use lib.ListN.{length}
 use Rattle.model.specs.Limits.{variableLimit, expressionDepth, listLimit}
 use Rattle.model.specs.Number.{programRange}
+use Rattle.model.specs.Bytes.{byte}
 use Rattle.model.specs.Mutation.{Mutation}
 use Rattle.model.specs.Syntax.{Expr, Stmt}
 use Rattle.model.specs.Program.{Read as Reading, got, bad, andThen, readByte, readBelow, readMany, readLabel, readMutation, readExpr, readBody}
@@ -25,6 +28,16 @@ reachedBy (Refused number place) = stopped number place
 unfoldable pub endOf : {A : Type 0} → Reading A → Reached
 endOf (got x next) = reached next
 endOf (bad number place) = stopped number place
+
+-- a skip stands at a position, with depth left for it
+pub record SkipAt (s : List ℕ) (depth at : ℕ) : Type 0 where
+  pub deep : depth ≡ 0 → ⊥
+  pub there : at < length s
+  pub code : byte s at ≡ 0
+
+-- r is true only then
+unfoldable pub FindsSkip : List ℕ → ℕ → ℕ → Bool → Type 0
+FindsSkip s depth at r = r ≡ true → SkipAt s depth at
 
 -- Parts of the model's readings that have no name there.
 

@@ -3,7 +3,7 @@
 ghost use mathlib.Core.Path.{_≡_};
 ghost use Prim.Native.Nat.{_-_};
 ghost use Rattle.model.specs.Program.{readStmt, blockAt, ifAt, whileAt, queryAt, transactionAt};
-ghost use Rattle.program.specs.Answer.{reachedBy, endOf, readAssign, readUpdate};
+ghost use Rattle.program.specs.Answer.{reachedBy, endOf, readAssign, readUpdate, FindsSkip};
 use super::answer::Answer;
 use super::atoms;
 use super::codes;
@@ -60,7 +60,20 @@ fn read_assign(program: &[u8], vars: u8, at: usize) -> Answer
     expressions::read_expr(program, vars, limit::EXPRESSION_DEPTH, next)
 }
 
-// n, n statements.
+// Whether a skip, code 00, stands at a position with depth left for it.
+fn is_skip(program: &[u8], depth: u8, at: usize) -> bool
+    ensures { λ r. ⌜ FindsSkip (now (program .entry)) depth at r ⌝ }
+{
+    if depth == 0 {
+        return false;
+    }
+    if program.len() <= at {
+        return false;
+    }
+    program[at] == 0
+}
+
+// n, n statements. A skip is passed over here, since a call would cost more than all else of it.
 fn read_block(program: &[u8], principals: u8, roles: u8, vars: u8, depth: u8, at: usize) -> Answer
     ensures { λ r. ⌜ reachedBy r ≡ endOf (blockAt (now (program .entry)) principals roles vars (readStmt (now (program .entry)) principals roles vars depth) at) ⌝ }
 {
@@ -70,12 +83,17 @@ fn read_block(program: &[u8], principals: u8, roles: u8, vars: u8, depth: u8, at
     let mut left = program[at];
     let mut next = at + 1;
     while 0 < left {
-        let one = read_stmt(program, principals, roles, vars, depth, next);
-        let Answer::At(end) = one else {
-            return one;
-        };
-        next = end;
-        left -= 1;
+        if is_skip(program, depth, next) {
+            next += 1;
+            left -= 1;
+        } else {
+            let one = read_stmt(program, principals, roles, vars, depth, next);
+            let Answer::At(end) = one else {
+                return one;
+            };
+            next = end;
+            left -= 1;
+        }
     }
     Answer::At(next)
 }

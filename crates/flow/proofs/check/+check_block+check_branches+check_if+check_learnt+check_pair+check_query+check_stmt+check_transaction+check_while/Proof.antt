@@ -1,6 +1,6 @@
 -- The cycle of checks: each return is the verdict of the tree that stands at the position, by a law for that return; the
 -- remaining depth falls, and where it stays each callee comes after its caller. A block: what is left of it decides.
-use Rattle.flow.proofs.CheckLaws.{Blocking, pair-first, pair-second, few-roles, ready-too, branches-first, branches-second, learnt-none, learnt-both, block-start, block-done, block-refused, block-more, if-checked, while-checked, query-outside, query-unlisted, query-known, query-learnt, transaction-nested, transaction-body, stmt-none, stmt-unknown, stmt-skip, stmt-assign, stmt-update, stmt-coded}
+use Rattle.flow.proofs.CheckLaws.{Blocking, pair-first, pair-second, few-roles, ready-too, branches-first, branches-second, learnt-none, learnt-both, block-start, block-done, block-refused, block-more, block-skip, if-checked, while-checked, query-outside, query-unlisted, query-known, query-learnt, transaction-nested, transaction-body, stmt-none, stmt-unknown, stmt-skip, stmt-assign, stmt-update, stmt-coded}
 use borrow.Author.Needs.{needs}
 use Prim.Native.Nat.{ℕ, _<_, _+_, _*_}
 use borrow.Fn.Kinds.{In}
@@ -35,6 +35,7 @@ use Rattle.flow.proofs.check.+check_block+check_branches+check_if+check
 use Rattle.flow.proofs.check.check_assign.Reads as check-assign-reads
 use Rattle.flow.proofs.check.check_update.Reads as check-update-reads
 use Rattle.flow.proofs.check.entered.Reads as entered-reads
+use Rattle.flow.proofs.check.is_skip.Reads as is-skip-reads
 use Rattle.flow.proofs.context.with_labels.Reads as with-labels-reads
 use Rattle.flow.proofs.context.with_named.Reads as with-named-reads
 use Rattle.flow.proofs.context.within.Reads as within-reads
@@ -198,6 +199,8 @@ pub +check-block+check-branches+check-if+check-learnt+check-pair+check-query+che
       ahead-reads.Learnt,
       byte-at-reads.Asked,
       byte-at-reads.Learnt,
+      is-skip-reads.Asked,
+      is-skip-reads.Learnt,
       check-stmt-below t,
       check-stmt.Post,
     )
@@ -210,6 +213,11 @@ pub +check-block+check-branches+check-if+check-learnt+check-pair+check-query+che
     (λ c κs. search needs)
     (λ c κs. search needs)
     (λ c. search (needs, block-start))
+    (λ c κs. search needs)
+    (λ c κs. search needs)
+    (λ c. search needs)
+    (λ c. search needs)
+    (λ c. search (needs, block-skip))
     (λ c κs. search needs)
     (λ c. search needs)
     (λ c. search needs)

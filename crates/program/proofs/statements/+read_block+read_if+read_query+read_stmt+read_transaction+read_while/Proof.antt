@@ -3,7 +3,8 @@
 use mathlib.Core.Path.{_≡_}
 use Rattle.model.specs.Program.{readMany, readStmt, blockAt}
 use Rattle.program.specs.Answer.{endOf}
-use Rattle.program.proofs.StatementLaws.{statements, blocks, ifs, whiles, queries, transactions}
+use Rattle.program.proofs.StatementLaws.{statements, blocks, skips, skip-there, ifs, whiles, queries, transactions}
+use native.Mathlib.Omega.{arith}
 use borrow.Author.Needs.{needs}
 use Prim.Native.Nat.{ℕ, _<_, _+_, _*_}
 use borrow.Fn.Kinds.{In}
@@ -29,6 +30,7 @@ use Rattle.program.proofs.statements.+read_block+read_if+read_query+rea
 use Rattle.program.proofs.entries.read_entries.Reads as read-entries-reads
 use Rattle.program.proofs.atoms.read_query.Reads as read-query-reads
 use Rattle.program.proofs.codes.statement_of.Reads as statement-of-reads
+use Rattle.program.proofs.statements.is_skip.Reads as is-skip-reads
 use Rattle.program.proofs.expressions.read_expr.Reads as read-expr-reads
 use Rattle.program.proofs.statements.read_assign.Reads as read-assign-reads
 use Rattle.program.proofs.statements.read_update.Reads as read-update-reads
@@ -126,8 +128,12 @@ pub +read-block+read-if+read-query+read-stmt+read-transaction+read-while-spec :
     μ-read-stmt
     μ-read-transaction
     μ-read-while
-    (λ t. read-block-lts.spec
-    (read-stmt-below t, read-stmt.Post)
+    (λ t. read-block-lts.spec (
+      is-skip-reads.Asked,
+      is-skip-reads.Learnt,
+      read-stmt-below t,
+      read-stmt.Post,
+    )
     (read-block-at t)
     read-block.Post
     read-block-Inv-loop
@@ -136,6 +142,11 @@ pub +read-block+read-if+read-query+read-stmt+read-transaction+read-while-spec :
     (λ c. search needs)
     (λ c. search needs)
     (λ c. search (needs, blocks))
+    (λ c κs. search needs)
+    (λ c. omega (arith, skip-there _ _ _ _ (c .before .is-skip .ensures) (c .if2 .taken)))
+    (λ c. search needs)
+    (λ c. search needs)
+    (λ c. search (needs, skips))
     (λ c κs. search needs)
     (λ c. search needs)
     (λ c. search needs)
