@@ -1,6 +1,6 @@
 -- A law for each return of check.rt: the tests that led there and what the callees say give the rules' verdict of the tree
 -- that stands at the position.
-use mathlib.Core.Path.{_≡_, refl, sym, ap, _∙_}
+use mathlib.Core.Path.{_≡_, refl, sym, ap, subst, _∙_}
 use mathlib.Core.Logic.{⊎-elim}
 use Prim.Native.Nat.{ℕ, _+_, _-_, _<_, _≤_}
 use native.Mathlib.Omega.{arith}
@@ -42,14 +42,15 @@ use Rattle.gathered.specs.Labels.{LabelsBelow, exprLabels, LabelsAt}
 use Rattle.gathered.specs.Writes.{stmtWrites, WritesAt}
 use Rattle.gathered.proofs.PositionLaws.{ahead-is, list-is}
 use Rattle.flow.specs.declared.context.Around.{Around}
+use Rattle.flow.specs.declared.context.Meets.{Meets}
 use Rattle.flow.specs.declared.context.Context.{Context}
 use Rattle.flow.specs.declared.lists.QueryOf.{QueryOf}
 use Rattle.flow.specs.declared.lists.QueryOf.the-variants as query
 use Rattle.flow.specs.Lists.{ListedAt, QueryAt, KnownAt, QueryRolesAt, ListRolesAt, AllowedAt}
-use Rattle.flow.specs.Context.{ContextIs, withLabels, withNamed, within}
-use Rattle.flow.specs.Judge.{SetBelow, sidesNumber, Asked, allAbove, WriteNumber, AssignNumber}
-use Rattle.flow.specs.Check.{checkedTo, numbered, Ready, Inside, AroundIs, Stands, StmtAt, StmtFits, CheckedAt, CodedAt, AssignAt, UpdateAt, PairAt, BranchesAt, BothAt, BranchesOf, bodyStart, EnteredAt}
-use Rattle.flow.proofs.ContextLaws.{context-expr, context-query, context-list, context-around}
+use Rattle.flow.specs.Context.{ContextIs, withLabels, withNamed, within, withMeets, joinOf, meetOf}
+use Rattle.flow.specs.Judge.{SetBelow, sidesNumber, Asked, allAbove, bothAbove, liesIn, Met, MetBoth, Held, updateNumber, AssignNumber}
+use Rattle.flow.specs.Check.{checkedTo, numbered, Ready, Inside, AroundIs, MeetsAre, Stands, StmtAt, StmtFits, CheckedAt, CodedAt, AssignAt, UpdateAt, PairAt, BranchesAt, Knowing, BothAt, LearntAt, BranchesOf, bodyStart, EnteredAt, Enters}
+use Rattle.flow.proofs.ContextLaws.{context-expr, context-query, context-list, context-same}
 use Rattle.flow.proofs.ListLaws.{query-not, query-is}
 
 -- answers
@@ -145,13 +146,14 @@ module _ {s p t : List ℕ} {c : Context} {around : Surroundings} {known : List 
   roles-few = accepted-facts s (st .is-accepted) .roles-fit
 
   -- under another context with the same transaction around it
-  stands-context : {k : Context} {K : Side → List Atom} → k .around ≡ c .around → ContextIs (roles s) k K → Stands s p t k around known K
-  stands-context e h = record {
+  stands-context : {k : Context} {K : Side → List Atom} → k .around ≡ c .around → k .meets ≡ c .meets → ContextIs (roles s) k K → Stands s p t k around known K
+  stands-context e f h = record {
     is-accepted = st .is-accepted;
     few = st .few;
     labels = st .labels;
     knows = st .knows;
     surrounded = rw e (st .surrounded);
+    met = rw f (st .met);
     context = h;
   }
 
@@ -162,7 +164,7 @@ module _ {s p t : List ℕ} {c : Context} {around : Surroundings} {known : List 
   under-expr : (l : Labels) (k : Context) (e : Expr) (end : ℕ) → l ≡ exprLabels p e end → k ≡ withLabels c l → ExprFits (variables p) e → Stands s p t k around known (λ side. exprLabel p side e ++ C side)
   under-expr l k e end f g h =
       let i : k ≡ withLabels c (exprLabels p e end) = g ∙ ap (withLabels c) f in
-      stands-context (ap (λ (c : Context). c .around) i) (rw i (context-expr (roles s) c C (st .context) p (variables p) e end (st .labels) h))
+      stands-context (ap (λ (c : Context). c .around) i) (ap (λ (c : Context). c .meets) i) (rw i (context-expr (roles s) c C (st .context) p (variables p) e end (st .labels) h))
 
 -- a transaction around, or none
 record Within (p : List ℕ) (R vars : ℕ) (a : Around) (around : Surroundings) : Type 0 where
@@ -196,14 +198,22 @@ assign-checked p t c at q x m l k n r e₁ e₂ e₃ f g h j s d code around kno
     rw (u .is, j, v, le, ← xe)
     (sides-checked (mayAssign s p known C x (u .value) reading) (mayAssign s p known C x (u .value) trust) at end)
 
--- an update
-write-same : (p t : List ℕ) (l : Context) (y : ℕ) {xs xs′ rs rs′ : ℕ} → xs ≡ xs′ → rs ≡ rs′ → WriteNumber p t l xs rs y → WriteNumber p t l xs′ rs′ y
-write-same p t l y e f h = rw (← e, ← f) h
+-- what an update is held to
+met-same : (p t : List ℕ) (m : Meets) {xs xs′ rs rs′ : ℕ} → xs ≡ xs′ → rs ≡ rs′ → MetBoth p t xs rs m → MetBoth p t xs′ rs′ m
+met-same p t m e f h = rw (← e, ← f) h
 
-module _ (s p t : List ℕ) (c : Context) (at : ℕ) where
-  pub update-outside : c .around .inside ≡ false → UpdateAt s p t c at (Refused 15 at)
+meets-are : (p t : List ℕ) (R vars : ℕ) (a : Around) (m : Meets) (around : Surroundings) → AroundIs p R vars a around → MetBoth p t (a .variables) (a .roles) m → MeetsAre p t m around
+meets-are p t R vars a m outside h f = tt
+meets-are p t R vars a m (inside listed xs rs) h f = met-same p t m (h .variables-are) (h .roles-are) f
+
+sides-same : {a a′ b b′ : Bool} → a ≡ a′ → b ≡ b′ → sidesNumber a b ≡ sidesNumber a′ b′
+sides-same e f = rw (e, f)
+
+-- an update
+module _ (s p : List ℕ) (c : Context) (at : ℕ) where
+  pub update-outside : c .around .inside ≡ false → UpdateAt s p c at (Refused 15 at)
   unfolding UpdateAt CheckedAt flow checkedTo
-  update-outside e d code around known C x end st h fit =
+  update-outside e t d code around known C x end st h fit =
       let u = update-parts p (principals s) (roles s) (variables p) d at h code in
       rw (u .is, within-none p (roles s) (variables p) (c .around) around (st .surrounded) e)
 
@@ -216,19 +226,19 @@ module _ (s p t : List ℕ) (c : Context) (at : ℕ) where
         let me : m ≡ at + 2 = k ∙ ahead-is p at 2 (u .inside) in
         f (u .mutations) end ok (rw (ne, me) (u .mutations-read))
 
-    pub update-grant : c .around .inside ≡ true → b ≡ false → UpdateAt s p t c at (Refused 16 at)
+    pub update-grant : c .around .inside ≡ true → b ≡ false → UpdateAt s p c at (Refused 16 at)
     unfolding UpdateAt CheckedAt flow checkedTo
-    update-grant e g d code around known C x end st h fit =
+    update-grant e g t d code around known C x end st h fit =
         let u = update-parts p (principals s) (roles s) (variables p) d at h code in
         let w = within-one p (roles s) (variables p) (c .around) around (st .surrounded) e in
         let v = sym (allowed-is d x end (st .is-accepted) h code) ∙ g in
         rw (u .is, w .is, v)
 
   pub update-number : (r : Answer) (y o : ℕ) (l : Context) (n m : ℕ) (b : Bool) (q : ℕ)
-      → c .around .inside ≡ true → reachedBy r ≡ numbered y at o → o ≡ afterList p at 3 → WriteNumber p t l (c .around .variables) (c .around .roles) y → l ≡ withNamed c (c .around .named)
-      → AllowedAt s p n m b → b ≡ true → n ≡ byte p q → q ≡ ahead p at 1 → m ≡ ahead p at 2 → UpdateAt s p t c at r
-  unfolding UpdateAt CheckedAt WriteNumber flow mayUpdate allAbove
-  update-number r y o l n m b q e re oe h le f g e₂ e₁ e₃ d code around known C x end st i fit =
+      → c .around .inside ≡ true → reachedBy r ≡ numbered y at o → o ≡ afterList p at 3 → y ≡ updateNumber l → l ≡ withNamed c (c .around .named)
+      → AllowedAt s p n m b → b ≡ true → n ≡ byte p q → q ≡ ahead p at 1 → m ≡ ahead p at 2 → UpdateAt s p c at r
+  unfolding UpdateAt CheckedAt MetBoth Met flow mayUpdate allAbove
+  update-number r y o l n m b q e re oe h le f g e₂ e₁ e₃ t d code around known C x end st i fit =
       let u = update-parts p (principals s) (roles s) (variables p) d at i code in
       let w = within-one p (roles s) (variables p) (c .around) around (st .surrounded) e in
       let v = sym (allowed-is q n m b e₁ e₂ e₃ f d x end (st .is-accepted) i code) ∙ g in
@@ -236,9 +246,11 @@ module _ (s p t : List ℕ) (c : Context) (at : ℕ) where
       let oo : o ≡ end = oe ∙ list-is p at 3 (omega arith) ∙ sym (ends .0) in
       let lc : l ≡ withNamed c (listRoles (w .listed)) = le ∙ ap (withNamed c) (w .parts .named-are) in
       let cl : ContextIs (roles s) l (λ side. C side ++ listLabel side (w .listed)) = rw lc (context-list (roles s) c C (st .context) (roles-few st) (w .listed) (w .parts .listed-below)) in
-      let b = stands-context st (ap (λ (c : Context). c .around) lc) cl in
+      let b = stands-context st (ap (λ (c : Context). c .around) lc) (ap (λ (c : Context). c .meets) lc) cl in
       let K : Side → List Atom = λ side. C side ++ listLabel side (w .listed) in
-      let n = write-same p t l y (w .parts .variables-are) (w .parts .roles-are) h s known K (stands-asked b) (w .parts .variables-below) (w .parts .roles-below) in
+      let held : MetBoth p t (w .xs) (w .rs) (l .meets) = subst (MeetsAre p t (l .meets)) (w .is) (b .met) in
+      let side : (side : Side) → liesIn (joinOf side l) (meetOf side (l .meets)) ≡ bothAbove s p known K side (w .xs) (w .rs) = λ side. held side s l known K (stands-asked b) (w .parts .variables-below) (w .parts .roles-below) in
+      let n = h ∙ sides-same (side reading) (side trust) in
       rw (u .is, w .is, v, re, oo, n) (sides-checked (mayUpdate s p known C (w .listed) (w .xs) (w .rs) reading) (mayUpdate s p known C (w .listed) (w .xs) (w .rs) trust) at end)
 
 -- entering a transaction
@@ -264,6 +276,9 @@ entered-is p d at q m a v flag e₁ e₂ e₃ e₄ f g vs rs P R vars listed bod
       roles-below = mutated-below P R vars body fit;
     }
 
+pub enters : (p t : List ℕ) (c : Context) (d at : ℕ) (a : Around) (i k : Context) → EnteredAt p d at a → i ≡ within c a → Held p t i k → Enters p t c d at k
+enters p t c d at a i k f e h = record { around = a; entered = f; held = rw e at h }
+
 -- two statements
 module _ (s p t : List ℕ) (c : Context) (d at : ℕ) (o : Answer) (f : CheckedAt s p t c d at o) where
   pub pair-first : (k place : ℕ) → o ≡ Refused k place → PairAt s p t c d at o
@@ -284,33 +299,56 @@ few-roles s n ok e = rw e (accepted-facts s ok .roles-fit)
 pub ready-too : (s t k : List ℕ) → Ready s t → length k ≡ tableWords → Ready s k
 ready-too s t k ready l = record { is-accepted = ready .is-accepted; long = l }
 
--- the branches of a query: the first by the table k, which also knows it, the second by the table t
-module _ (s p k t : List ℕ) (c : Context) (d at : ℕ) (o : Answer) (f : CheckedAt s p k c d at o) where
-  first-branch : (q : ModelQuery) → Learnt (roles s) t k q → (around : Surroundings) (known : List ModelQuery) (C : Side → List Atom) (x : Stmt) (mid : ℕ)
+-- the branches of a query: the first by the table k and the words b, which also know it, the second by the table t
+module _ (s p k t : List ℕ) (b c : Context) (d at : ℕ) (o : Answer) (f : CheckedAt s p k b d at o) where
+  first-branch : (q : ModelQuery) → Knowing s p k t b c q → (around : Surroundings) (known : List ModelQuery) (C : Side → List Atom) (x : Stmt) (mid : ℕ)
       → QueryFits (roles s) q → Stands s p t c around known C → StmtAt s p d at x mid → StmtFits s p x
       → reachedBy o ≡ checkedTo (flow s p around (q ∷ known) C x) mid
-  unfolding CheckedAt Learnt
-  first-branch q l around known C x mid fits st h fit =
-      f around (q ∷ known) C x mid (record {
-        is-accepted = st .is-accepted;
-        few = st .few;
-        labels = st .labels;
-        knows = l s known (st .is-accepted) refl fits (st .knows);
-        surrounded = st .surrounded;
-        context = st .context;
-      }) h fit
+  unfolding CheckedAt Knowing
+  first-branch q l around known C x mid fits st h fit = f around (q ∷ known) C x mid (l around known C fits st) h fit
 
-  pub branches-first : (n place : ℕ) → o ≡ Refused n place → BothAt s p k t c d at o
+  pub branches-first : (n place : ℕ) → o ≡ Refused n place → BothAt s p k t b c d at o
   unfolding BothAt BranchesAt
   branches-first n place g q l around known C x y mid end below st h fit h′ fit′ =
       or-stopped _ _ mid end (reachedBy o) (first-branch q l around known C x mid below st h fit) n place (ap reachedBy g)
 
-  pub branches-second : (m : ℕ) (r : Answer) → o ≡ At m → CheckedAt s p t c d m r → BothAt s p k t c d at r
+  pub branches-second : (m : ℕ) (r : Answer) → o ≡ At m → CheckedAt s p t c d m r → BothAt s p k t b c d at r
   unfolding BothAt BranchesAt CheckedAt
   branches-second m r g w q l around known C x y mid end below st h fit h′ fit′ =
       let v = first-branch q l around known C x mid below st h fit in
       let e : m ≡ mid = reached-is _ (flow s p around known C y) mid end (reachedBy o) v m (ap reachedBy g) in
       w around known C y end st (rw e h′) fit′ ∙ rw (or-reached _ (flow s p around known C y) mid end (reachedBy o) v m (ap reachedBy g))
+
+-- a table that knows the query too, and what an update is held to by it
+module _ (s p k t : List ℕ) (q : ModelQuery) (l : Learnt (roles s) t k q) where
+  knowing-by : (b c : Context) → b .around ≡ c .around → b .reading ≡ c .reading → b .trust ≡ c .trust
+      → ((around : Surroundings) → AroundIs p (roles s) (variables p) (c .around) around → MeetsAre p t (c .meets) around → MeetsAre p k (b .meets) around) → Knowing s p k t b c q
+  unfolding Knowing Learnt
+  knowing-by b c e e₁ e₂ m around known C fits st = record {
+    is-accepted = st .is-accepted;
+    few = st .few;
+    labels = st .labels;
+    knows = l s known (st .is-accepted) refl fits (st .knows);
+    surrounded = rw e (st .surrounded);
+    met = m around (st .surrounded) (st .met);
+    context = context-same (roles s) c b C e₁ e₂ (st .context);
+  }
+
+  knowing-learnt : (b c : Context) → Held p k c b → Knowing s p k t b c q
+  knowing-learnt b c h =
+      rw (h .is) (knowing-by (withMeets c (h .by)) c refl refl refl (λ around i _. meets-are p k (roles s) (variables p) (c .around) (h .by) around i (h .right)))
+
+pub held-both : (s p k t : List ℕ) (b c : Context) (d at : ℕ) (r : Answer) → Held p k c b → BothAt s p k t b c d at r → LearntAt s p k t c d at r
+unfolding BothAt LearntAt
+held-both s p k t b c d at r h f q l = f q (knowing-learnt s p k t q l b c h)
+
+knowing-same : (s p t : List ℕ) (q : ModelQuery) → Learnt (roles s) t t q → (c : Context) → Knowing s p t t c c q
+knowing-same s p t q l c = knowing-by s p t t q l c c refl refl refl (λ around _ h. h)
+
+-- a query that the table knows
+pub asked-known : (s p t : List ℕ) (c : Context) (d at asked : ℕ) (b : Bool) (r : Answer) → KnownAt p t asked b → b ≡ true → BothAt s p t t c c d at r → BranchesOf s p t c d at asked r
+unfolding KnownAt BothAt BranchesOf
+asked-known s p t c d at asked b r g z h q end i = h q (knowing-same s p t q (known-learnt (roles s) t q b (g (roles s) q end i) z) c)
 
 -- with a table of its own
 module _ (s p t : List ℕ) (c : Context) (d at asked : ℕ) (o : QueryOf) (f : QueryAt p asked o) where
@@ -318,8 +356,8 @@ module _ (s p t : List ℕ) (c : Context) (d at asked : ℕ) (o : QueryOf) (f : 
   unfolding QueryAt BranchesOf
   learnt-none r g q end h = query-not o q (f (roles s) q end h) g
 
-  pub learnt-both : (a b : CodeAtom) (n : ℕ) (k : List ℕ) (r : Answer) → o ≡ query.Is a b → n ≡ roles s → Learnt n t k (queryOf a b) → BothAt s p k t c d at r → BranchesOf s p t c d at asked r
-  unfolding QueryAt BothAt BranchesOf
+  pub learnt-both : (a b : CodeAtom) (n : ℕ) (k : List ℕ) (r : Answer) → o ≡ query.Is a b → n ≡ roles s → Learnt n t k (queryOf a b) → LearntAt s p k t c d at r → BranchesOf s p t c d at asked r
+  unfolding QueryAt LearntAt BranchesOf
   learnt-both a b n k r g e l w q end h =
       w q (learnt-same t k e (query-is o q a b (f (roles s) q end h) g) l)
     where
@@ -455,15 +493,11 @@ module _ (s p t : List ℕ) (c : Context) (d at : ℕ) where
           let se : start ≡ at + 3 = es ∙ ahead-is p at 3 (omega (arith, u .asked-parts .inside)) in
           rw (u .is, v .is, sym b ∙ le)
           (rw (v .is) at (g (u .asked) (at + 3) asked around known (λ side. queryLabel side (u .asked) ++ C side) (u .left) (u .right) (u .mid) end
-          (fits .0) (stands-context st (ap (λ (c : Context). c .around) kc) cq) (rw se (u .left-read)) (fits .1) (u .right-read) (fits .2)))
+          (fits .0) (stands-context st (ap (λ (c : Context). c .around) kc) (ap (λ (c : Context). c .meets) kc) cq) (rw se (u .left-read)) (fits .1) (u .right-read) (fits .2)))
 
-      pub query-known : (b : Bool) (r : Answer) → KnownAt p t m b → b ≡ true → BothAt s p t t k (d - 1) start r → CodedAt Query s p t c d at r
-      unfolding KnownAt BothAt
-      query-known b r g z h = query-by r (λ q end i. h q (known-learnt (roles s) t q b (g (roles s) q end i) z))
-
-      pub query-learnt : (r : Answer) → BranchesOf s p t k (d - 1) start m r → CodedAt Query s p t c d at r
+      pub query-listed : (r : Answer) → BranchesOf s p t k (d - 1) start m r → CodedAt Query s p t c d at r
       unfolding BranchesOf
-      query-learnt r h = query-by r h
+      query-listed r h = query-by r h
 
   -- a transaction
   pub transaction-nested : c .around .inside ≡ true → CodedAt Transaction s p t c d at (Refused 15 at)
@@ -473,13 +507,16 @@ module _ (s p t : List ℕ) (c : Context) (d at : ℕ) where
       let w = within-one p (roles s) (variables p) (c .around) around (st .surrounded) e in
       rw (u .is, w .is)
 
-  pub transaction-body : (m : ℕ) (b : Around) (k : Context) (r : Answer) → c .around .inside ≡ false → m ≡ afterList p at 2 → EnteredAt p (d - 1) at b → k ≡ within c b → CheckedAt s p t k (d - 1) m r → CodedAt Transaction s p t c d at r
+  pub transaction-body : (m : ℕ) (k : Context) (r : Answer) → c .around .inside ≡ false → m ≡ afterList p at 2 → Enters p t c (d - 1) at k → CheckedAt s p t k (d - 1) m r → CodedAt Transaction s p t c d at r
   unfolding CodedAt CheckedAt EnteredAt flow
-  transaction-body m b k r e me f ke g code around known C x end st h fit =
+  transaction-body m k r e me f g code around known C x end st h fit =
       let u = transaction-parts p (principals s) (roles s) (variables p) d at h code in
       let w = within-none p (roles s) (variables p) (c .around) around (st .surrounded) e in
       let fits = rw (u .is) at fit in
-      let v = f (principals s) (roles s) (variables p) (u .listed) (u .body) end (roles-few st) (st .few) (u .inside) (u .listed-read) (fits .0) (u .body-read) (fits .1) in
+      let b = f .around in
+      let v = f .entered (principals s) (roles s) (variables p) (u .listed) (u .body) end (roles-few st) (st .few) (u .inside) (u .listed-read) (fits .0) (u .body-read) (fits .1) in
+      let z = f .held .by in
+      let ke : k ≡ withMeets (within c b) z = f .held .is in
       let mm : m ≡ bodyStart p at = me ∙ list-is p at 2 (u .inside) in
       rw (u .is, w)
       (g (inside (u .listed) (assigned (u .body)) (mutated (u .body))) known C (u .body) end (record {
@@ -488,7 +525,8 @@ module _ (s p t : List ℕ) (c : Context) (d at : ℕ) where
         labels = st .labels;
         knows = st .knows;
         surrounded = rw ke v;
-        context = rw ke (context-around (roles s) c C b (st .context));
+        met = rw ke (met-same p t z (v .variables-are) (v .roles-are) (f .held .right));
+        context = context-same (roles s) c k C (rw ke) (rw ke) (st .context);
       }) (rw mm (u .body-read)) (fits .1))
 
   -- any statement
@@ -510,9 +548,9 @@ module _ (s p t : List ℕ) (c : Context) (d at : ℕ) where
         unfolding AssignAt
         stmt-assign k f = f s d (statement-byte (byte p at) o i code j ∙ ap statementByte k)
 
-        pub stmt-update : code ≡ Update → UpdateAt s p t c at r → CheckedAt s p t c d at r
+        pub stmt-update : code ≡ Update → UpdateAt s p c at r → CheckedAt s p t c d at r
         unfolding UpdateAt
-        stmt-update k f = f d (statement-byte (byte p at) o i code j ∙ ap statementByte k)
+        stmt-update k f = f t d (statement-byte (byte p at) o i code j ∙ ap statementByte k)
 
         pub stmt-coded : (one : Statement) → code ≡ one → CodedAt one s p t c d at r → CheckedAt s p t c d at r
         unfolding CodedAt

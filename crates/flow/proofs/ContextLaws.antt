@@ -19,8 +19,9 @@ use Rattle.gathered.specs.declared.labels.Labels.{Labels}
 use Rattle.gathered.specs.Labels.{LabelsBelow, exprLabels}
 use Rattle.flow.specs.declared.context.Around.{Around}
 use Rattle.flow.specs.declared.context.Join.{Join}
+use Rattle.flow.specs.declared.context.Meets.{Meets}
 use Rattle.flow.specs.declared.context.Context.{Context}
-use Rattle.flow.specs.Context.{ContextIs, noTransaction, noLabels, joinWith, noContext, withLabels, withNamed, within, joinOf}
+use Rattle.flow.specs.Context.{ContextIs, noTransaction, noLabels, noMeets, joinWith, noContext, withLabels, withNamed, joinOf}
 
 -- a label's byte is that of its atom
 module _ (b : ℕ) where
@@ -73,13 +74,13 @@ context-none n = record { joined = go; below = λ side. below-none n }
     go reading = joins-none reading
     go trust = joins-none trust
 
--- only the transaction around differs
-pub context-around : (n : ℕ) (c : Context) (C : Side → List Atom) (a : Around) → ContextIs n c C → ContextIs n (within c a) C
-context-around n c C a is = record { joined = go; below = is .below }
+-- only the transaction around, or what an update is held to, differs
+pub context-same : (n : ℕ) (c k : Context) (C : Side → List Atom) → k .reading ≡ c .reading → k .trust ≡ c .trust → ContextIs n c C → ContextIs n k C
+context-same n c k C e f is = record { joined = go; below = is .below }
   where
-    go : (side : Side) → Joins side (C side) (joinOf side (within c a) .roles) (joinOf side (within c a) .watchers)
-    go reading = is .joined reading
-    go trust = is .joined trust
+    go : (side : Side) → Joins side (C side) (joinOf side k .roles) (joinOf side k .watchers)
+    go reading = rw e (is .joined reading)
+    go trust = rw f (is .joined trust)
 
 module _ (n : ℕ) (c : Context) (C : Side → List Atom) (is : ContextIs n c C) where
   pub context-expr : (p : List ℕ) (vars : ℕ) (e : Expr) (end : ℕ) → LabelsBelow n p vars → ExprFits vars e → ContextIs n (withLabels c (exprLabels p e end)) (λ side. exprLabel p side e ++ C side)
@@ -114,11 +115,15 @@ module _ (n : ℕ) (c : Context) (C : Side → List Atom) (is : ContextIs n c C)
     }
 
 -- the words of each function of context.rt
-pub start-is : (a : Around) (j k : Join) → a ≡ noTransaction → j ≡ noLabels → k ≡ noLabels → _≡_ {A = Context} (record { around = a; reading = j; trust = k }) noContext
-start-is a j k e f g = rw (e, f, g)
+pub start-is : (a : Around) (j k : Join) (m : Meets) → a ≡ noTransaction → j ≡ noLabels → k ≡ noLabels → m ≡ noMeets
+    → _≡_ {A = Context} (record { around = a; reading = j; trust = k; meets = m }) noContext
+start-is a j k m e f g h = rw (e, f, g, h)
 
-pub labels-are : (c : Context) (l : Labels) (j k : Join) → j ≡ joinWith (c .reading) (l .reading) 0 → k ≡ joinWith (c .trust) (l .trust) 0 → _≡_ {A = Context} (record { around = c .around; reading = j; trust = k }) (withLabels c l)
+pub meets-none : (j k : Join) → j ≡ noLabels → k ≡ noLabels → _≡_ {A = Meets} (record { reading = j; trust = k }) noMeets
+meets-none j k e f = rw (e, f)
+
+pub labels-are : (c : Context) (l : Labels) (j k : Join) → j ≡ joinWith (c .reading) (l .reading) 0 → k ≡ joinWith (c .trust) (l .trust) 0 → _≡_ {A = Context} (record { around = c .around; reading = j; trust = k; meets = c .meets }) (withLabels c l)
 labels-are c l j k e f = rw (e, f)
 
-pub named-are : (c : Context) (n : ℕ) (j k : Join) → j ≡ joinWith (c .reading) 0 n → k ≡ joinWith (c .trust) 0 n → _≡_ {A = Context} (record { around = c .around; reading = j; trust = k }) (withNamed c n)
+pub named-are : (c : Context) (n : ℕ) (j k : Join) → j ≡ joinWith (c .reading) 0 n → k ≡ joinWith (c .trust) 0 n → _≡_ {A = Context} (record { around = c .around; reading = j; trust = k; meets = c .meets }) (withNamed c n)
 named-are c n j k e f = rw (e, f)

@@ -1,25 +1,31 @@
--- A law for each return of judge.rt, and its loops: a number that passes its test may leave the set, one that does not decides.
+-- A law for each return of judge.rt, and its loop: a set lies in an intersection exactly when it lies in each.
 use mathlib.Core.Path.{_≡_, refl, sym, ap, _∙_}
-use Prim.Native.Nat.{ℕ, zero, suc, _<_, _≤_}
+use Prim.Native.Nat.{ℕ, zero, suc, _^_, _<_, _≤_}
 use native.Mathlib.Omega.{arith}
-use native.Mathlib.Nat.{lt-of-lt-of-le}
+use native.Mathlib.Nat.{lt-of-lt-of-le, one-mul}
 use native.Mathlib.Decide.{decLt, ℕ-discrete}
 use mathlib.Core.List.{List}
 use mathlib.Core.Bool.{Bool, true, false, cond, _&&_}
 use lib.Pow.{pow-pos}
+use lib.Bits.{bitAnd, and-mask}
+use borrow.Author.Tests.{eq-eqb}
 use lib.Count.{trailingZeros}
 use Rattle.model.specs.Limits.{roleLimit}
-use Rattle.model.specs.Sets.{has, without}
+use Rattle.model.specs.Sets.{has, within, without}
 use Rattle.model.specs.Policy.{Side, reading, trust, roles}
-use Rattle.model.specs.Syntax.{of, Atom, fixed}
+use Rattle.model.specs.Syntax.{of, Atom, role, fixed}
 use Rattle.model.specs.Program.{variables, labelByte}
 use Rattle.model.specs.Fits.{AtomFits}
+use Rattle.model.specs.Order.{joinAtMost}
 use Rattle.model.specs.Flow.{labelAtom, label, eachIn}
 use Rattle.model.proofs.Accepted.{accepted-facts}
-use Rattle.model.proofs.Sets.{has-zero, has-without, without-has}
-use Rattle.model.proofs.Truth.{same-truth}
+use Rattle.model.proofs.Sets.{has-zero, has-and, and-has, within-has, has-within, has-power, has-without, without-has}
+use Rattle.model.proofs.Truth.{same-truth, both, and-both}
+use Rattle.shared.proofs.SetLaws.{shifted}
 use Rattle.program.specs.Layout.{sideOf}
-use Rattle.order.specs.Table.{Decides}
+use Rattle.order.specs.Table.{rowIn, indexOf, watched, Decides}
+use Rattle.order.specs.declared.table.Row.{Row}
+use Rattle.order.proofs.DecideLaws.{decided}
 use Rattle.program.specs.declared.codes.Atom.{Atom as CodeAtom}
 use Rattle.program.specs.declared.codes.Atom.the-variants.{Viewers, Trusters}
 use Rattle.program.specs.declared.codes.AtomOf.{AtomOf}
@@ -28,11 +34,12 @@ use Rattle.program.specs.Codes.{atomOf, modelAtom, codeAtom}
 use Rattle.program.proofs.CodeLaws.{model-code, byte-atom}
 use Rattle.gathered.specs.Labels.{LabelsBelow}
 use Rattle.flow.specs.declared.context.Join.{Join}
+use Rattle.flow.specs.declared.context.Meets.{Meets}
 use Rattle.flow.specs.declared.context.Context.{Context}
 use Rattle.flow.specs.declared.judge.Written.{Written}
 use Rattle.flow.specs.declared.judge.Written.the-variants.{Variable, Role}
-use Rattle.flow.specs.Context.{joinOf}
-use Rattle.flow.specs.Judge.{sidesNumber, targetOf, limitOf, Names, TargetAt, BelowAtom, OneBelow, allAbove, AllBelow, MayWrite, WriteNumber, AssignNumber}
+use Rattle.flow.specs.Context.{withMeets, joinOf, ContextIs}
+use Rattle.flow.specs.Judge.{sidesNumber, targetOf, limitOf, Names, TargetAt, BelowAtom, OneBelow, allAbove, liesIn, narrowed, everything, MetOne, MetAll, Met, MetBoth, Held, updateNumber, AssignNumber}
 use Rattle.flow.proofs.ContextLaws.{label-byte, atom-below, label-below}
 
 and-false : (a b : Bool) → b ≡ false → a && b ≡ false
@@ -41,10 +48,10 @@ and-false false b e = refl
 
 -- a set's numbers that pass a test
 module _ (f : ℕ → Bool) (a : ℕ) where
-  each-none : (n : ℕ) → a ≤ 0 → eachIn a f n ≡ true
+  each-none : a ≤ 0 → (n : ℕ) → eachIn a f n ≡ true
   unfolding eachIn
-  each-none zero z = refl
-  each-none (suc n) z = let e : a ≡ 0 = omega arith in rw (each-none n z, e, has-zero n)
+  each-none z zero = refl
+  each-none z (suc n) = let e : a ≡ 0 = omega arith in rw (each-none z n, e, has-zero n)
 
   module _ (x : ℕ) where
     each-without : f x ≡ true → (n : ℕ) → eachIn (without a x) f n ≡ eachIn a f n
@@ -68,6 +75,10 @@ module _ (f : ℕ → Bool) (a : ℕ) where
         go : Dec (x < n) → (x < n → eachIn a f n ≡ false) → eachIn a f (suc n) ≡ false
         go (yes m) i = rw (i m)
         go (no m) i = let e : n ≡ x = omega arith in and-false (eachIn a f n) _ (rw (e, h, k))
+
+    each-taken : has a x ≡ true → (b : Bool) → f x ≡ b → (n : ℕ) → x < n → b && eachIn (without a x) f n ≡ eachIn a f n
+    each-taken h true e n l = each-without e n
+    each-taken h false e n l = sym (each-stops h e n l)
 
 -- the lowest number leaves a set
 pub fewer : (a j next : ℕ) → 0 < a → j ≡ trailingZeros 64 a → has a j ≡ true → next ≡ without a (trailingZeros 64 a) → next < a
@@ -142,53 +153,134 @@ module _ (p t : List ℕ) (c : Context) (side : Side) (w : Written) (x : ℕ) (o
 
 pub ruleset ones = (one-unknown, one-atom)
 
--- an answer for what is left of a set is one for the whole
-module _ (p t : List ℕ) (c : Context) (side : Side) (w : Written) where
-  unfoldable pub Left : ℕ → ℕ → Type 0
-  Left left set = (r : Bool) → AllBelow p t c side w left r → AllBelow p t c side w set r
+-- a set lies in an intersection exactly when it lies in each
+within-and : (a b c : ℕ) → within a (bitAnd b c) ≡ within a b && within a c
+within-and a b c =
+    same-truth _ _
+    (λ h. and-both _ _ (has-within a b (λ i k. and-has b c i (within-has a (bitAnd b c) i h k) .0)) (has-within a c (λ i k. and-has b c i (within-has a (bitAnd b c) i h k) .1)))
+    (λ h. let (p, q) = both (within a b) (within a c) h in has-within a (bitAnd b c) (λ i k. has-and b c i (within-has a b i p k) (within-has a c i q k)))
 
-  pub all-start : (set : ℕ) → Left set set
-  unfolding Left
-  all-start set r f = f
+swapped : (a b c d : Bool) → (a && b) && (c && d) ≡ (a && c) && (b && d)
+swapped true true c d = refl
+swapped true false true d = refl
+swapped true false false d = refl
+swapped false b c d = refl
 
-  module _ (set left : ℕ) (inv : Left left set) where
-    pub all-done : left ≤ 0 → AllBelow p t c side w set true
-    unfolding Left AllBelow allAbove
-    all-done z = inv true (λ s known C asked sub. sym (each-none _ left roleLimit z))
+and-same : (a : Bool) → a && true ≡ a
+and-same true = refl
+and-same false = refl
 
-    module _ (x : ℕ) (b : Bool) (e : x ≡ trailingZeros 64 left) (h : has left x ≡ true) (l : x < 64) (f : OneBelow p t c side w x b) where
-      pub all-stop : b ≡ false → AllBelow p t c side w set false
-      unfolding Left AllBelow OneBelow allAbove
-      all-stop k = inv false (λ s known C asked sub.
-          sym (each-stops _ left x h (sym (f s known C asked (sub x h)) ∙ k) roleLimit l))
+and-grouped : (a b c : Bool) → (a && b) && c ≡ a && (b && c)
+and-grouped true b c = refl
+and-grouped false b c = refl
 
-      pub all-more : (next : ℕ) → b ≡ true → next ≡ without left (trailingZeros 64 left) → Left next set
-      unfolding Left AllBelow OneBelow allAbove
-      all-more next k j r g = inv r (λ s known C asked sub.
-          let n : next ≡ without left x = j ∙ ap (without left) (sym e) in
-          let u = g s known C asked (λ y m. sub y (without-has left x y (rw n at m) .0)) in
-          rw n at u ∙ each-without _ left x (sym (f s known C asked (sub x h)) ∙ k) roleLimit)
+-- whether a join lies in a meet, and in one with one more row
+module _ (j m : Join) where
+  module _ (b : Bool) (e : b ≡ within (j .roles) (m .roles)) where
+    pub lies-both : (r : Bool) → b ≡ true → r ≡ within (j .watchers) (m .watchers) → r ≡ liesIn j m
+    unfolding liesIn
+    lies-both r h g = rw (← e, h) g
 
-pub ruleset alls = (all-start, all-done, all-stop, all-more)
+    pub lies-not : b ≡ false → false ≡ liesIn j m
+    unfolding liesIn
+    lies-not h = rw (← e, h)
+
+  lies-narrowed : (side : Side) (r : Row) → liesIn j (narrowed side m r) ≡ liesIn j m && (within (j .roles) (r .roles) && within (j .watchers) (watched side r))
+  unfolding liesIn
+  lies-narrowed side r =
+      rw (within-and (j .roles) (m .roles) (r .roles), within-and (j .watchers) (m .watchers) (watched side r))
+      (swapped (within (j .roles) (m .roles)) (within (j .roles) (r .roles)) (within (j .watchers) (m .watchers)) (within (j .watchers) (watched side r)))
+
+pub ruleset lies = (lies-both, lies-not)
+
+pub narrowed-is : (side : Side) (m : Join) (r : Row) (w : ℕ) → w ≡ watched side r
+    → _≡_ {A = Join} (record { roles = bitAnd (m .roles) (r .roles); watchers = bitAnd (m .watchers) w }) (narrowed side m r)
+narrowed-is side m r w e = rw e
+
+-- every context lies in everything
+has-everything : (i : ℕ) → i < 64 → has 0xffffffffffffffff i ≡ true
+has-everything i l =
+    within-has (2 ^ i) 0xffffffffffffffff i (eq-eqb _ _ (and-mask (2 ^ i) 64 ∙ rw one-mul at (shifted i l))) (has-power i i ∙ eq-eqb i i refl)
+
+lies-in-everything : (n : ℕ) (c : Context) (C : Side → List Atom) → n ≤ roleLimit → ContextIs n c C → (side : Side) → liesIn (joinOf side c) everything ≡ true
+unfolding liesIn
+lies-in-everything n c C few is side =
+    and-both _ _
+    (has-within _ _ (λ i k. has-everything i (lt-of-lt-of-le (is .below side (role i) (is .joined side .role-out i k)) few)))
+    (has-within _ _ (λ i k. has-everything i (lt-of-lt-of-le (is .below side (fixed (of side i)) (is .joined side .fixed-out i k)) few)))
+
+-- the meet with the row of what one write is held to
+module _ (p t : List ℕ) (flag : Bool) (w : Written) (x : ℕ) (o : AtomOf) (f : TargetAt p (sideOf flag) w x o) (m : Join) where
+  pub met-none : o ≡ atom.No → MetOne p t (sideOf flag) w x m m
+  unfolding TargetAt MetOne
+  met-none h s c known C asked l = none-named o _ (f s (asked .is-accepted) (asked .labels) l) h
+
+  pub met-row : (a : CodeAtom) (r : Row) (n : Join) → o ≡ atom.Is a → r ≡ rowIn t (indexOf a) → n ≡ narrowed (sideOf flag) m r → MetOne p t (sideOf flag) w x m n
+  unfolding TargetAt MetOne Decides
+  met-row a r n h d g s c known C asked l =
+      let e : modelAtom a ≡ targetOf p (sideOf flag) w x = same-named o a _ (f s (asked .is-accepted) (asked .labels) l) h in
+      let j = joinOf (sideOf flag) c in
+      let u = decided t a (j .roles) (j .watchers) r (within (j .roles) (r .roles)) flag d refl s known (C (sideOf flag)) (asked .is-accepted) (asked .knows)
+      (asked .context .joined (sideOf flag)) (asked .context .below (sideOf flag)) (rw e (target-fits s p (sideOf flag) w x (asked .labels) l)) in
+      rw g (lies-narrowed j m (sideOf flag) r ∙ ap (λ (b : Bool). liesIn j m && b) (rw e at u))
+
+pub ruleset mets = (met-none, met-row)
+
+-- a meet for what is left of a set is one for the whole
+module _ (p t : List ℕ) (side : Side) (w : Written) (set : ℕ) (m : Join) where
+  unfoldable pub Meeting : ℕ → Join → Type 0
+  Meeting left met = (r : Join) → MetAll p t side w left met r → MetAll p t side w set m r
+
+  module _ (left : ℕ) (met : Join) (inv : Meeting left met) where
+    pub meeting-done : left ≤ 0 → MetAll p t side w set m met
+    unfolding Meeting MetAll allAbove
+    meeting-done z = inv met (λ s c known C asked sub.
+        sym (ap (λ (b : Bool). liesIn (joinOf side c) met && b) (each-none _ left z roleLimit) ∙ and-same (liesIn (joinOf side c) met)))
+
+    pub meeting-more : (x next : ℕ) (more : Join) → x ≡ trailingZeros 64 left → has left x ≡ true → x < 64 → MetOne p t side w x met more
+        → next ≡ without left (trailingZeros 64 left) → Meeting next more
+    unfolding Meeting MetAll MetOne allAbove
+    meeting-more x next more e h l f g r k = inv r (λ s c known C asked sub.
+        let n : next ≡ without left x = g ∙ ap (without left) (sym e) in
+        let j = joinOf side c in
+        let test : ℕ → Bool = λ y. joinAtMost s known (C side) (targetOf p side w y) in
+        let u = k s c known C asked (λ y i. sub y (without-has left x y (rw n at i) .0)) in
+        rw n at u ∙ ap (λ (b : Bool). b && eachIn (without left x) test roleLimit) (f s c known C asked (sub x h))
+        ∙ and-grouped (liesIn j met) (test x) (eachIn (without left x) test roleLimit)
+        ∙ ap (λ (b : Bool). liesIn j met && b) (each-taken test left x h (test x) refl roleLimit l))
+
+pub meeting-start : (p t : List ℕ) (side : Side) (w : Written) (set : ℕ) (m : Join) → Meeting p t side w set m set m
+unfolding Meeting
+meeting-start p t side w set m r f = f
+
+pub ruleset meetings = (meeting-start, meeting-done, meeting-more)
 
 -- variables and roles, then both sides
+module _ (p t : List ℕ) (xs rs : ℕ) where
+  pub met-both : (side : Side) (e m n : Join) → e ≡ everything → MetAll p t side Variable xs e m → MetAll p t side Role rs m n → Met p t side xs rs n
+  unfolding MetAll Met
+  met-both side e m n g a b s c known C asked sub sub′ =
+      let all : liesIn (joinOf side c) e ≡ true = rw g (lies-in-everything (roles s) c C (accepted-facts s (asked .is-accepted) .roles-fit) (asked .context) side) in
+      b s c known C asked sub′
+      ∙ ap (λ (v : Bool). v && allAbove s p known C side Role rs) (a s c known C asked sub ∙ ap (λ (v : Bool). v && allAbove s p known C side Variable xs) all)
+
+  pub met-sides : (a b : Join) → Met p t reading xs rs a → Met p t trust xs rs b → MetBoth p t xs rs (record { reading = a; trust = b })
+  unfolding MetBoth
+  met-sides a b f g reading = f
+  met-sides a b f g trust = g
+
+pub ruleset boths = (met-both, met-sides)
+
+pub held-by : (p t : List ℕ) (c k : Context) (m : Meets) → k ≡ withMeets c m → MetBoth p t (c .around .variables) (c .around .roles) m → Held p t c k
+held-by p t c k m e f = record { by = m; is = e; right = f }
+
 module _ (p t : List ℕ) (c : Context) where
-  module _ (side : Side) (xs rs : ℕ) (a : Bool) (f : AllBelow p t c side Variable xs a) where
-    pub write-roles : (r : Bool) → a ≡ true → AllBelow p t c side Role rs r → MayWrite p t c side xs rs r
-    unfolding AllBelow MayWrite
-    write-roles r e g s known C asked sub sub′ = g s known C asked sub′ ∙ rw (sym (f s known C asked sub) ∙ e)
-
-    pub write-not : a ≡ false → MayWrite p t c side xs rs false
-    unfolding AllBelow MayWrite
-    write-not e s known C asked sub sub′ = rw (sym (f s known C asked sub) ∙ e)
-
   module _ (n : ℕ) (a b : Bool) (e : n ≡ sidesNumber a b) where
-    pub write-sides : (xs rs : ℕ) → MayWrite p t c reading xs rs a → MayWrite p t c trust xs rs b → WriteNumber p t c xs rs n
-    unfolding MayWrite WriteNumber
-    write-sides xs rs f g s known C asked sub sub′ = cc (f s known C asked sub sub′, g s known C asked sub sub′)
-
     pub assign-sides : (x : ℕ) → OneBelow p t c reading Variable x a → OneBelow p t c trust Variable x b → AssignNumber p t c x n
     unfolding OneBelow AssignNumber
     assign-sides x f g s known C asked l = cc (f s known C asked l, g s known C asked l)
 
-pub ruleset numbers = (write-roles, write-not, write-sides, assign-sides)
+pub update-sides : (c : Context) (n : ℕ) (a b : Bool) → n ≡ sidesNumber a b → a ≡ liesIn (c .reading) (c .meets .reading) → b ≡ liesIn (c .trust) (c .meets .trust) → n ≡ updateNumber c
+update-sides c n a b e f g = e ∙ rw (f, g)
+
+pub ruleset numbers = (assign-sides, update-sides)

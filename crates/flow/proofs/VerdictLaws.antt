@@ -48,6 +48,7 @@ module _ (s p t : List ℕ) (n start : ℕ) (c : Context) (ok : Accepted s) (k :
         labels = labels-below p (principals s) (roles s) u;
         knows = k;
         surrounded = rw ec refl;
+        met = tt;
         context = rw ec (context-none (roles s));
       }) (rw at (u .body-read)) (u .fits)
 

@@ -20,9 +20,10 @@ use Rattle.program.specs.Answer.{Reached, reached, stopped, reachedBy}
 use Rattle.program.specs.Codes.{statementByte}
 use Rattle.gathered.specs.Labels.{LabelsBelow}
 use Rattle.flow.specs.declared.context.Around.{Around}
+use Rattle.flow.specs.declared.context.Meets.{Meets}
 use Rattle.flow.specs.declared.context.Context.{Context}
-use Rattle.flow.specs.Context.{ContextIs}
-use Rattle.flow.specs.Judge.{SetBelow}
+use Rattle.flow.specs.Context.{within, ContextIs}
+use Rattle.flow.specs.Judge.{SetBelow, MetBoth, Held}
 
 -- how far the check of a statement came that ends at a position: by its verdict, or by a number at a place
 unfoldable pub checkedTo : Verdict → ℕ → Reached
@@ -55,6 +56,11 @@ abbrev pub AroundIs : List ℕ → ℕ → ℕ → Around → Surroundings → T
 AroundIs p R vars a outside = a .inside ≡ false
 AroundIs p R vars a (inside listed xs rs) = Inside p R vars a listed xs rs
 
+-- and what an update there is held to, by the table t
+abbrev pub MeetsAre : List ℕ → List ℕ → Meets → Surroundings → Type 0
+MeetsAre p t m outside = Unit {0}
+MeetsAre p t m (inside listed xs rs) = MetBoth p t xs rs m
+
 -- what the code carries to a statement stands for what the rules speak of there
 pub record Stands (s p t : List ℕ) (c : Context) (around : Surroundings) (known : List Query) (C : Side → List Atom) : Type 0 where
   pub is-accepted : Accepted s
@@ -62,6 +68,7 @@ pub record Stands (s p t : List ℕ) (c : Context) (around : Surroundings) (know
   pub labels : LabelsBelow (roles s) p (variables p)
   pub knows : Knows s known t
   pub surrounded : AroundIs p (roles s) (variables p) (c .around) around
+  pub met : MeetsAre p t (c .meets) around
   pub context : ContextIs (roles s) c C
 
 -- the statement that was read at a position
@@ -82,12 +89,12 @@ CheckedAt s p t c depth at r =
 unfoldable pub CodedAt : Statement → List ℕ → List ℕ → List ℕ → Context → ℕ → ℕ → Answer → Type 0
 CodedAt code s p t c depth at r = byte p at ≡ statementByte code → CheckedAt s p t c depth at r
 
--- the same of an assignment, under any policy, and of an update
+-- the same of an assignment, under any policy, and of an update, by any table
 unfoldable pub AssignAt : List ℕ → List ℕ → Context → ℕ → Answer → Type 0
 AssignAt p t c at r = (s : List ℕ) (depth : ℕ) → byte p at ≡ 1 → CheckedAt s p t c depth at r
 
-unfoldable pub UpdateAt : List ℕ → List ℕ → List ℕ → Context → ℕ → Answer → Type 0
-UpdateAt s p t c at r = (depth : ℕ) → byte p at ≡ 6 → CheckedAt s p t c depth at r
+unfoldable pub UpdateAt : List ℕ → List ℕ → Context → ℕ → Answer → Type 0
+UpdateAt s p c at r = (t : List ℕ) (depth : ℕ) → byte p at ≡ 6 → CheckedAt s p t c depth at r
 
 -- the same of two statements, one after the other
 unfoldable pub PairAt : List ℕ → List ℕ → List ℕ → Context → ℕ → ℕ → Answer → Type 0
@@ -104,9 +111,19 @@ BranchesAt s p t c depth at q r =
     → StmtAt s p depth at x mid → StmtFits s p x → StmtAt s p depth mid y end → StmtFits s p y
     → reachedBy r ≡ checkedTo (orElse (flow s p around (q ∷ known) C x) (flow s p around known C y)) end
 
+-- the table k and the words b stand for what the table t and the words c stand for, with the query q known too
+unfoldable pub Knowing : List ℕ → List ℕ → List ℕ → List ℕ → Context → Context → Query → Type 0
+Knowing s p k t b c q =
+    (around : Surroundings) (known : List Query) (C : Side → List Atom) → QueryFits (roles s) q → Stands s p t c around known C
+    → Stands s p k b around (q ∷ known) C
+
+-- the same, where the first branch has a table and words of its own
+unfoldable pub BothAt : List ℕ → List ℕ → List ℕ → List ℕ → Context → Context → ℕ → ℕ → Answer → Type 0
+BothAt s p k t b c depth at r = (q : Query) → Knowing s p k t b c q → BranchesAt s p t c depth at q r
+
 -- the same, where k is the table t with that query known
-unfoldable pub BothAt : List ℕ → List ℕ → List ℕ → List ℕ → Context → ℕ → ℕ → Answer → Type 0
-BothAt s p k t c depth at r = (q : Query) → Learnt (roles s) t k q → BranchesAt s p t c depth at q r
+unfoldable pub LearntAt : List ℕ → List ℕ → List ℕ → List ℕ → Context → ℕ → ℕ → Answer → Type 0
+LearntAt s p k t c depth at r = (q : Query) → Learnt (roles s) t k q → BranchesAt s p t c depth at q r
 
 -- the same, where the query stands at the position `asked`
 unfoldable pub BranchesOf : List ℕ → List ℕ → List ℕ → Context → ℕ → ℕ → ℕ → Answer → Type 0
@@ -123,3 +140,9 @@ EnteredAt p depth at r =
     → readMany (readQuery p R) (byte p (at + 1)) (at + 2) ≡ got listed (bodyStart p at) → Each (QueryFits R) listed
     → readStmt p P R vars depth (bodyStart p at) ≡ got body end → Fits P R vars body
     → Inside p R vars r listed (assigned body) (mutated body)
+
+-- k is the context of its body, where c is the context that it stands in
+pub record Enters (p t : List ℕ) (c : Context) (depth at : ℕ) (k : Context) : Type 0 where
+  pub around : Around
+  pub entered : EnteredAt p depth at around
+  pub held : Held p t (within c around) k

@@ -3,25 +3,29 @@ use mathlib.Core.Path.{_≡_}
 use Prim.Native.Nat.{ℕ, _<_}
 use mathlib.Core.List.{List}
 use mathlib.Core.Bool.{Bool, true, _&&_}
+use lib.Bits.{bitAnd}
 use Rattle.model.specs.Number.{accepted, flowReading, flowTrust, unless}
 use Rattle.model.specs.Limits.{roleLimit}
-use Rattle.model.specs.Sets.{has}
+use Rattle.model.specs.Sets.{has, within}
 use Rattle.model.specs.Policy.{Side, reading, trust, roles, Accepted}
 use Rattle.model.specs.Syntax.{of, Atom, fixed, Query}
 use Rattle.model.specs.Program.{variables}
 use Rattle.model.specs.Fits.{AtomFits}
 use Rattle.model.specs.Order.{joinAtMost}
 use Rattle.model.specs.Flow.{label, eachIn}
-use Rattle.order.specs.Table.{Knows}
+use Rattle.order.specs.Table.{watched, Knows}
+use Rattle.order.specs.declared.table.Row.{Row}
 use Rattle.program.specs.declared.codes.Atom.{Atom as CodeAtom}
 use Rattle.program.specs.declared.codes.AtomOf.{AtomOf}
 use Rattle.program.specs.declared.codes.AtomOf.the-variants as atom
 use Rattle.program.specs.Codes.{modelAtom}
 use Rattle.gathered.specs.Labels.{LabelsBelow}
+use Rattle.flow.specs.declared.context.Join.{Join}
+use Rattle.flow.specs.declared.context.Meets.{Meets}
 use Rattle.flow.specs.declared.context.Context.{Context}
 use Rattle.flow.specs.declared.judge.Written.{Written}
 use Rattle.flow.specs.declared.judge.Written.the-variants.{Variable, Role}
-use Rattle.flow.specs.Context.{ContextIs}
+use Rattle.flow.specs.Context.{withMeets, joinOf, meetOf, ContextIs}
 
 -- a set of numbers below n
 abbrev pub SetBelow : ℕ → ℕ → Type 0
@@ -75,26 +79,52 @@ OneBelow p t c side w x r =
 unfoldable pub allAbove : List ℕ → List ℕ → List Query → (Side → List Atom) → Side → Written → ℕ → Bool
 allAbove s p known C side w set = eachIn set (λ x. joinAtMost s known (C side) (targetOf p side w x)) roleLimit
 
--- r says that
-unfoldable pub AllBelow : List ℕ → List ℕ → Context → Side → Written → ℕ → Bool → Type 0
-AllBelow p t c side w set r =
-    (s : List ℕ) (known : List Query) (C : Side → List Atom) → Asked s p t c known C → SetBelow set (limitOf s p w)
-    → r ≡ allAbove s p known C side w set
-
 -- of variables and of roles
 abbrev pub bothAbove : List ℕ → List ℕ → List Query → (Side → List Atom) → Side → ℕ → ℕ → Bool
 bothAbove s p known C side xs rs = allAbove s p known C side Variable xs && allAbove s p known C side Role rs
 
-unfoldable pub MayWrite : List ℕ → List ℕ → Context → Side → ℕ → ℕ → Bool → Type 0
-MayWrite p t c side xs rs r =
-    (s : List ℕ) (known : List Query) (C : Side → List Atom) → Asked s p t c known C → SetBelow xs (variables p) → SetBelow rs (roles s)
-    → r ≡ bothAbove s p known C side xs rs
+-- whether a join lies in a meet
+unfoldable pub liesIn : Join → Join → Bool
+liesIn j m = within (j .roles) (m .roles) && within (j .watchers) (m .watchers)
 
--- r is the number of that on both sides
-unfoldable pub WriteNumber : List ℕ → List ℕ → Context → ℕ → ℕ → ℕ → Type 0
-WriteNumber p t c xs rs r =
-    (s : List ℕ) (known : List Query) (C : Side → List Atom) → Asked s p t c known C → SetBelow xs (variables p) → SetBelow rs (roles s)
-    → r ≡ sidesNumber (bothAbove s p known C reading xs rs) (bothAbove s p known C trust xs rs)
+-- what is in a meet and in one more row, and the meet of no rows
+abbrev pub narrowed : Side → Join → Row → Join
+narrowed side m r = record { roles = bitAnd (m .roles) (r .roles); watchers = bitAnd (m .watchers) (watched side r) }
+
+abbrev pub everything : Join
+everything = record { roles = 0xffffffffffffffff; watchers = 0xffffffffffffffff }
+
+-- a context lies in the meet n exactly when it lies in m and is at most what the write of x is held to
+unfoldable pub MetOne : List ℕ → List ℕ → Side → Written → ℕ → Join → Join → Type 0
+MetOne p t side w x m n =
+    (s : List ℕ) (c : Context) (known : List Query) (C : Side → List Atom) → Asked s p t c known C → x < limitOf s p w
+    → liesIn (joinOf side c) n ≡ liesIn (joinOf side c) m && joinAtMost s known (C side) (targetOf p side w x)
+
+-- the same of the writes of a whole set
+unfoldable pub MetAll : List ℕ → List ℕ → Side → Written → ℕ → Join → Join → Type 0
+MetAll p t side w set m n =
+    (s : List ℕ) (c : Context) (known : List Query) (C : Side → List Atom) → Asked s p t c known C → SetBelow set (limitOf s p w)
+    → liesIn (joinOf side c) n ≡ liesIn (joinOf side c) m && allAbove s p known C side w set
+
+-- a context lies in the meet m exactly when it is at most all that is written
+unfoldable pub Met : List ℕ → List ℕ → Side → ℕ → ℕ → Join → Type 0
+Met p t side xs rs m =
+    (s : List ℕ) (c : Context) (known : List Query) (C : Side → List Atom) → Asked s p t c known C → SetBelow xs (variables p) → SetBelow rs (roles s)
+    → liesIn (joinOf side c) m ≡ bothAbove s p known C side xs rs
+
+-- on each side
+unfoldable pub MetBoth : List ℕ → List ℕ → ℕ → ℕ → Meets → Type 0
+MetBoth p t xs rs m = (side : Side) → Met p t side xs rs (meetOf side m)
+
+-- k is the context c with its updates held to what they are by the table t
+pub record Held (p t : List ℕ) (c k : Context) : Type 0 where
+  pub by : Meets
+  pub is : k ≡ withMeets c by
+  pub right : MetBoth p t (c .around .variables) (c .around .roles) by
+
+-- the number of an update
+abbrev pub updateNumber : Context → ℕ
+updateNumber c = sidesNumber (liesIn (c .reading) (c .meets .reading)) (liesIn (c .trust) (c .meets .trust))
 
 -- r is the number of an assignment to x
 unfoldable pub AssignNumber : List ℕ → List ℕ → Context → ℕ → ℕ → Type 0

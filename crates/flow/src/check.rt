@@ -11,7 +11,7 @@ ghost use Rattle.model.specs.Policy.{Accepted};
 ghost use Rattle.order.specs.Table.{tableWords};
 ghost use Rattle.program.specs.Answer.{reachedBy};
 ghost use Rattle.program.specs.declared.codes.Statement.the-variants.{Block, If, While, Query, Transaction};
-ghost use Rattle.flow.specs.Check.{numbered, Ready, EnteredAt, CheckedAt, CodedAt, AssignAt, UpdateAt, PairAt, BothAt, BranchesOf};
+ghost use Rattle.flow.specs.Check.{numbered, Ready, EnteredAt, Enters, CheckedAt, CodedAt, AssignAt, UpdateAt, PairAt, BothAt, LearntAt, BranchesOf};
 use super::context;
 use super::context::Around;
 use super::context::Context;
@@ -68,27 +68,14 @@ fn check_assign(
 
 // An update in a transaction adds only what the policy file allows. The context joined with the labels of all listed queries
 // is at most all that the transaction writes.
-fn check_granted(
-    policy: &[u8],
-    program: &[u8],
-    table: &[u64; table::TABLE_WORDS],
-    context: Context,
-    at: usize,
-) -> Answer
-    requires { ⌜ (Accepted (now policy)) × (length (now table) ≡ tableWords) × (context .around .inside ≡ true) ⌝ }
-    ensures { λ r. ⌜ UpdateAt (now (policy .entry)) (now (program .entry)) (now (table .entry)) context at r ⌝ }
+fn check_granted(policy: &[u8], program: &[u8], context: Context, at: usize) -> Answer
+    requires { ⌜ (Accepted (now policy)) × (context .around .inside ≡ true) ⌝ }
+    ensures { λ r. ⌜ UpdateAt (now (policy .entry)) (now (program .entry)) context at r ⌝ }
 {
     let transaction = context.around;
     let count = bytes::byte_at(program, positions::ahead(program, at, 1));
     if lists::all_allowed(policy, program, count, positions::ahead(program, at, 2)) {
-        let joined = context::with_named(context, transaction.named);
-        let number = judge::write_number(
-            program,
-            table,
-            joined,
-            transaction.variables,
-            transaction.roles,
-        );
+        let number = judge::update_number(context::with_named(context, transaction.named));
         return answer(
             number,
             at,
@@ -99,19 +86,13 @@ fn check_granted(
 }
 
 // Only in a transaction.
-fn check_update(
-    policy: &[u8],
-    program: &[u8],
-    table: &[u64; table::TABLE_WORDS],
-    context: Context,
-    at: usize,
-) -> Answer
-    requires { ⌜ (Accepted (now policy)) × (length (now table) ≡ tableWords) ⌝ }
-    ensures { λ r. ⌜ UpdateAt (now (policy .entry)) (now (program .entry)) (now (table .entry)) context at r ⌝ }
+fn check_update(policy: &[u8], program: &[u8], context: Context, at: usize) -> Answer
+    requires { ⌜ Accepted (now policy) ⌝ }
+    ensures { λ r. ⌜ UpdateAt (now (policy .entry)) (now (program .entry)) context at r ⌝ }
 {
     let transaction = context.around;
     if transaction.inside {
-        return check_granted(policy, program, table, context, at);
+        return check_granted(policy, program, context, at);
     }
     Answer::Refused(number::FLOW_TRANSACTION, at)
 }
@@ -132,6 +113,21 @@ fn entered(program: &[u8], depth: u8, at: usize) -> Around
         variables: written.variables,
         roles: written.roles,
     }
+}
+
+// The context of that body, its updates held to what they are by the table.
+fn body_context(
+    program: &[u8],
+    table: &[u64; table::TABLE_WORDS],
+    context: Context,
+    depth: u8,
+    at: usize,
+) -> Context
+    requires { ⌜ length (now table) ≡ tableWords ⌝ }
+    ensures { λ r. ⌜ Enters (now (program .entry)) (now (table .entry)) context depth at r ⌝ }
+{
+    let around = entered(program, depth, at);
+    judge::held(program, table, context::within(context, around))
 }
 
 // Where no statement stands any answer is right.
@@ -159,7 +155,7 @@ pub fn check_stmt(
         Statement::If => check_if(policy, program, table, context, depth, at),
         Statement::While => check_while(policy, program, table, context, depth, at),
         Statement::Query => check_query(policy, program, table, context, depth, at),
-        Statement::Update => check_update(policy, program, table, context, at),
+        Statement::Update => check_update(policy, program, context, at),
         Statement::Transaction => check_transaction(policy, program, table, context, depth, at),
     }
 }
@@ -265,8 +261,7 @@ fn check_while(
     check_stmt(policy, program, table, inner, depth - 1, start)
 }
 
-// Only in a transaction whose list holds it. A query that the table knows already needs no table of its own: so
-// however deep queries nest, no more tables are held at once than a transaction lists queries.
+// Only in a transaction whose list holds it.
 fn check_query(
     policy: &[u8],
     program: &[u8],
@@ -284,17 +279,34 @@ fn check_query(
         if lists::is_listed(program, around.count, around.list, asked) {
             let inner = context::with_named(context, lists::query_roles(program, asked));
             let start = positions::ahead(program, at, 3);
-            if lists::is_known(program, table, asked) {
-                return check_branches(policy, program, table, table, inner, depth - 1, start);
-            }
-            return check_learnt(policy, program, table, inner, depth - 1, start, asked);
+            return check_asked(policy, program, table, inner, depth - 1, start, asked);
         }
         return Answer::Refused(number::FLOW_TRANSACTION, at);
     }
     Answer::Refused(number::FLOW_TRANSACTION, at)
 }
 
-// The branches of the query that stands at `asked`, the first with a table that knows it too.
+// The branches of the query that stands at `asked`. One that the table knows already needs no table of its own: so however
+// deep queries nest, no more tables are held at once than a transaction lists queries.
+fn check_asked(
+    policy: &[u8],
+    program: &[u8],
+    table: &[u64; table::TABLE_WORDS],
+    context: Context,
+    depth: u8,
+    at: usize,
+    asked: usize,
+) -> Answer
+    requires { ⌜ Ready (now policy) (now table) ⌝ }
+    ensures { λ r. ⌜ BranchesOf (now (policy .entry)) (now (program .entry)) (now (table .entry)) context depth at asked r ⌝ }
+{
+    if lists::is_known(program, table, asked) {
+        return check_branches(policy, program, table, table, context, context, depth, at);
+    }
+    check_learnt(policy, program, table, context, depth, at, asked)
+}
+
+// The same of a query that the table does not know: the first branch has a table that does.
 fn check_learnt(
     policy: &[u8],
     program: &[u8],
@@ -312,11 +324,11 @@ fn check_learnt(
     };
     let mut learnt = *table;
     order::learn::learn(&mut learnt, rows::roles_of(policy), first, second);
-    check_branches(policy, program, &learnt, table, context, depth, at)
+    check_held(policy, program, &learnt, table, context, depth, at)
 }
 
-// The first branch also knows the query, by the table `learnt`; the second does not.
-fn check_branches(
+// The same with that table: an update in the first branch is held to what it gives.
+fn check_held(
     policy: &[u8],
     program: &[u8],
     learnt: &[u64; table::TABLE_WORDS],
@@ -326,9 +338,27 @@ fn check_branches(
     at: usize,
 ) -> Answer
     requires { ⌜ (Ready (now policy) (now learnt)) × (Ready (now policy) (now table)) ⌝ }
-    ensures { λ r. ⌜ BothAt (now (policy .entry)) (now (program .entry)) (now (learnt .entry)) (now (table .entry)) context depth at r ⌝ }
+    ensures { λ r. ⌜ LearntAt (now (policy .entry)) (now (program .entry)) (now (learnt .entry)) (now (table .entry)) context depth at r ⌝ }
 {
-    let one = check_stmt(policy, program, learnt, context, depth, at);
+    let known = judge::held(program, learnt, context);
+    check_branches(policy, program, learnt, table, known, context, depth, at)
+}
+
+// The first branch also knows the query, by the table `learnt` and the context `known`; the second does not.
+fn check_branches(
+    policy: &[u8],
+    program: &[u8],
+    learnt: &[u64; table::TABLE_WORDS],
+    table: &[u64; table::TABLE_WORDS],
+    known: Context,
+    context: Context,
+    depth: u8,
+    at: usize,
+) -> Answer
+    requires { ⌜ (Ready (now policy) (now learnt)) × (Ready (now policy) (now table)) ⌝ }
+    ensures { λ r. ⌜ BothAt (now (policy .entry)) (now (program .entry)) (now (learnt .entry)) (now (table .entry)) known context depth at r ⌝ }
+{
+    let one = check_stmt(policy, program, learnt, known, depth, at);
     let Answer::At(other) = one else {
         return one;
     };
@@ -353,6 +383,6 @@ fn check_transaction(
     }
     let inner = depth - 1;
     let body = positions::after_list(program, at, positions::QUERY_BYTES);
-    let inside = context::within(context, entered(program, inner, at));
+    let inside = body_context(program, table, context, inner, at);
     check_stmt(policy, program, table, inside, inner, body)
 }

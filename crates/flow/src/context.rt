@@ -1,8 +1,8 @@
 // What surrounds a statement on the check's way, as one value: the transaction around it, with the flag that forbids nesting,
-// and the context of each side. A context is a join of labels, carried as two words.
+// the context of each side, and what an update here is held to. A context is a join of labels, carried as two words.
 ghost use mathlib.Core.Path.{_≡_};
 ghost use Rattle.program.specs.Layout.{sideOf};
-ghost use Rattle.flow.specs.Context.{noTransaction, noLabels, joinWith, noContext, withLabels, withNamed, within, joinOf};
+ghost use Rattle.flow.specs.Context.{noTransaction, noLabels, noMeets, joinWith, noContext, withLabels, withNamed, within, withMeets, joinOf};
 use gathered::labels::Labels;
 
 // Inside a transaction: where its `count` listed queries stand, the roles that they name, and all the variables and roles
@@ -23,10 +23,18 @@ pub struct Join {
     pub watchers: u64,
 }
 
+// What every update of a transaction is held to: on each side, all that is at most each of the atoms that its writes are held
+// to. It changes only with the transaction and the table.
+pub struct Meets {
+    pub reading: Join,
+    pub trust: Join,
+}
+
 pub struct Context {
     pub around: Around,
     pub reading: Join,
     pub trust: Join,
+    pub meets: Meets,
 }
 
 // No transaction.
@@ -53,6 +61,16 @@ fn no_labels() -> Join
     }
 }
 
+// Where there is no transaction any words are right.
+fn no_meets() -> Meets
+    ensures { λ r. ⌜ r ≡ noMeets ⌝ }
+{
+    Meets {
+        reading: no_labels(),
+        trust: no_labels(),
+    }
+}
+
 // With more roles, and with the watchers of more roles.
 fn join_with(join: Join, roles: u64, watchers: u64) -> Join
     ensures { λ r. ⌜ r ≡ joinWith join roles watchers ⌝ }
@@ -71,6 +89,7 @@ pub fn start() -> Context
         around: no_transaction(),
         reading: no_labels(),
         trust: no_labels(),
+        meets: no_meets(),
     }
 }
 
@@ -81,10 +100,12 @@ pub fn with_labels(context: Context, labels: Labels) -> Context
     let around = context.around;
     let reading = context.reading;
     let trust = context.trust;
+    let meets = context.meets;
     Context {
         around,
         reading: join_with(reading, labels.reading, 0),
         trust: join_with(trust, labels.trust, 0),
+        meets,
     }
 }
 
@@ -95,10 +116,12 @@ pub fn with_named(context: Context, named: u64) -> Context
     let around = context.around;
     let reading = context.reading;
     let trust = context.trust;
+    let meets = context.meets;
     Context {
         around,
         reading: join_with(reading, 0, named),
         trust: join_with(trust, 0, named),
+        meets,
     }
 }
 
@@ -108,10 +131,27 @@ pub fn within(context: Context, around: Around) -> Context
 {
     let reading = context.reading;
     let trust = context.trust;
+    let meets = context.meets;
     Context {
         around,
         reading,
         trust,
+        meets,
+    }
+}
+
+// With an update held to these.
+pub fn with_meets(context: Context, meets: Meets) -> Context
+    ensures { λ r. ⌜ r ≡ withMeets context meets ⌝ }
+{
+    let around = context.around;
+    let reading = context.reading;
+    let trust = context.trust;
+    Context {
+        around,
+        reading,
+        trust,
+        meets,
     }
 }
 

@@ -1,20 +1,29 @@
 // The order's part of the flow rules: whether a context is at most what an assignment or an update writes. The reading side
-// comes first, so its number 17 comes before the trust side's 18.
+// comes first, so its number 17 comes before the trust side's 18. What all updates of a transaction are held to is worked out
+// once for a table: a join is at most each of some atoms exactly when it lies in the meet of their rows.
 ghost use mathlib.Core.Path.{_≡_};
 ghost use lib.ListN.{length};
 ghost use Rattle.model.specs.Syntax.{of, fixed};
 ghost use Rattle.program.specs.Layout.{sideOf};
 ghost use Rattle.order.specs.Table.{tableWords};
 ghost use Rattle.program.specs.Codes.{modelAtom};
-ghost use Rattle.flow.specs.Judge.{sidesNumber, TargetAt, BelowAtom, OneBelow, AllBelow, MayWrite, WriteNumber, AssignNumber};
+ghost use Rattle.flow.specs.Judge.{sidesNumber, TargetAt, BelowAtom, OneBelow, liesIn, narrowed, everything, MetOne, MetAll, Met, MetBoth, Held, updateNumber, AssignNumber};
 use super::context;
+use super::context::Around;
 use super::context::Context;
+use super::context::Join;
+use super::context::Meets;
+use order::table;
+use order::table::Row;
 use program::codes;
 use program::codes::Atom;
 use program::codes::AtomOf;
 use program::layout;
 use shared::number;
 use shared::sets;
+
+// The set of all numbers that a word holds.
+const ALL: u64 = 0xffffffffffffffff;
 
 // What is written: a variable, which is held to its label, or a role, which is held to its viewers (on the trust side,
 // trusters).
@@ -70,44 +79,101 @@ fn one_below(
     below(table, context, trust, atom)
 }
 
-// Whether the context is at most what the writes of a whole set are held to.
-fn all_below(
+// What is in a meet, and in one more row.
+fn narrowed(meet: Join, row: Row, trust: bool) -> Join
+    ensures { λ r. ⌜ r ≡ narrowed (sideOf trust) meet row ⌝ }
+{
+    Join {
+        roles: meet.roles & row.roles,
+        watchers: meet.watchers & table::watched(row, trust),
+    }
+}
+
+// What is in a meet, and is at most what one write is held to.
+fn met_one(program: &[u8], table: &[u64], trust: bool, written: Written, x: u8, meet: Join) -> Join
+    requires { ⌜ length (now table) ≡ tableWords ⌝ }
+    ensures { λ r. ⌜ MetOne (now (program .entry)) (now (table .entry)) (sideOf trust) written x meet r ⌝ }
+{
+    let AtomOf::Is(atom) = target(program, trust, written, x) else {
+        return meet;
+    };
+    narrowed(meet, table::row_of(table, atom), trust)
+}
+
+// What is in a meet, and is at most what each write of a set is held to.
+fn met_all(
     program: &[u8],
     table: &[u64],
-    context: Context,
     trust: bool,
     written: Written,
     set: u64,
-) -> bool
+    meet: Join,
+) -> Join
     requires { ⌜ length (now table) ≡ tableWords ⌝ }
-    ensures { λ r. ⌜ AllBelow (now (program .entry)) (now (table .entry)) context (sideOf trust) written set r ⌝ }
+    ensures { λ r. ⌜ MetAll (now (program .entry)) (now (table .entry)) (sideOf trust) written set meet r ⌝ }
 {
+    let mut met = meet;
     let mut left = set;
     while 0 < left {
         let x = sets::lowest(left) as u8;
-        if one_below(program, table, context, trust, written, x) {
-            left = sets::without_lowest(left);
-        } else {
-            return false;
-        }
+        met = met_one(program, table, trust, written, x, met);
+        left = sets::without_lowest(left);
     }
-    true
+    met
 }
 
-// Whether the context is at most all that is written: the labels of variables, the viewers (trusters) of roles.
-fn may_write(
-    program: &[u8],
-    table: &[u64],
-    context: Context,
-    trust: bool,
-    variables: u64,
-    roles: u64,
-) -> bool
-    requires { ⌜ length (now table) ≡ tableWords ⌝ }
-    ensures { λ r. ⌜ MayWrite (now (program .entry)) (now (table .entry)) context (sideOf trust) variables roles r ⌝ }
+// Nothing written holds an update to nothing.
+fn everything() -> Join
+    ensures { λ r. ⌜ r ≡ everything ⌝ }
 {
-    if all_below(program, table, context, trust, Written::Variable, variables) {
-        return all_below(program, table, context, trust, Written::Role, roles);
+    Join {
+        roles: ALL,
+        watchers: ALL,
+    }
+}
+
+// What is at most all that is written: the labels of variables, the viewers (trusters) of roles.
+fn meet_of(program: &[u8], table: &[u64], trust: bool, variables: u64, roles: u64) -> Join
+    requires { ⌜ length (now table) ≡ tableWords ⌝ }
+    ensures { λ r. ⌜ Met (now (program .entry)) (now (table .entry)) (sideOf trust) variables roles r ⌝ }
+{
+    let met = met_all(
+        program,
+        table,
+        trust,
+        Written::Variable,
+        variables,
+        everything(),
+    );
+    met_all(program, table, trust, Written::Role, roles, met)
+}
+
+// What the updates of a transaction are held to, by the table.
+fn meets_of(program: &[u8], table: &[u64], around: Around) -> Meets
+    requires { ⌜ length (now table) ≡ tableWords ⌝ }
+    ensures { λ r. ⌜ MetBoth (now (program .entry)) (now (table .entry)) (around .variables) (around .roles) r ⌝ }
+{
+    Meets {
+        reading: meet_of(program, table, false, around.variables, around.roles),
+        trust: meet_of(program, table, true, around.variables, around.roles),
+    }
+}
+
+// The context with its updates held to that.
+pub fn held(program: &[u8], table: &[u64; table::TABLE_WORDS], context: Context) -> Context
+    requires { ⌜ length (now table) ≡ tableWords ⌝ }
+    ensures { λ r. ⌜ Held (now (program .entry)) (now (table .entry)) context r ⌝ }
+{
+    let around = context.around;
+    context::with_meets(context, meets_of(program, table, around))
+}
+
+// Whether a join lies in a meet.
+fn lies_in(join: Join, meet: Join) -> bool
+    ensures { λ r. ⌜ r ≡ liesIn join meet ⌝ }
+{
+    if sets::subset(join.roles, meet.roles) {
+        return sets::subset(join.watchers, meet.watchers);
     }
     false
 }
@@ -125,19 +191,13 @@ fn number_of(reading: bool, trust: bool) -> u32
     number::FLOW_READING
 }
 
-// An update in a context that is joined with the labels of all listed queries, against all that its transaction writes.
-pub fn write_number(
-    program: &[u8],
-    table: &[u64],
-    context: Context,
-    variables: u64,
-    roles: u64,
-) -> u32
-    requires { ⌜ length (now table) ≡ tableWords ⌝ }
-    ensures { λ r. ⌜ WriteNumber (now (program .entry)) (now (table .entry)) context variables roles r ⌝ }
+// An update in a context that is joined with the labels of all listed queries.
+pub fn update_number(context: Context) -> u32
+    ensures { λ r. ⌜ r ≡ updateNumber context ⌝ }
 {
-    let reading = may_write(program, table, context, false, variables, roles);
-    let trust = may_write(program, table, context, true, variables, roles);
+    let meets = context.meets;
+    let reading = lies_in(context.reading, meets.reading);
+    let trust = lies_in(context.trust, meets.trust);
     number_of(reading, trust)
 }
 

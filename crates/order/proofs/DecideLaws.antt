@@ -54,7 +54,7 @@ module _ (s : List ℕ) (known : List Query) (t : List ℕ) (knows : Knows s kno
 
 -- the target's row was read, and b says whether the join's roles lie in it
 module _ (t : List ℕ) (o : CodeAtom) (rs ws : ℕ) (r : Row) (b flag : Bool) (d : r ≡ rowIn t (indexOf o)) (g : b ≡ within rs (r .roles)) where
-  decided : Decides t (sideOf flag) rs ws (modelAtom o) (b && within ws (watched (sideOf flag) r))
+  pub decided : Decides t (sideOf flag) rs ws (modelAtom o) (b && within ws (watched (sideOf flag) r))
   unfolding Decides
   decided s known join ok knows joins small below =
       rw g (row-decides s known t knows (sideOf flag) join rs ws joins small (modelAtom o) below r (d ∙ rw (index-is (roles s) o (accepted-facts s ok .roles-fit) below)))

@@ -1,5 +1,5 @@
 mod TableLaws
 mod BaseLaws
 pub mod LearnLaws
-mod DecideLaws
+pub mod DecideLaws
 pub mod Joins
