@@ -19,9 +19,10 @@ use Rattle.model.specs.Mutation.{Mutation}
 use Rattle.model.specs.Syntax.{Atom, Query as ModelQuery, Expr, Stmt, skip, assign, empty, block, if, while, query as stmtQuery, update, transaction}
 use Rattle.model.specs.Program.{got, variables, readMany, readExpr, readQuery, readStmt, blockOf}
 use Rattle.model.specs.Fits.{Each, QueryFits, MutationFits, ExprFits, Fits}
-use Rattle.model.specs.Flow.{Around as Surroundings, outside, inside, exprLabel, queryLabel, listLabel, assigned, rolesOf, mutated, listedIn, allAllowed, mayAssign, mayUpdate, flow}
+use Rattle.model.specs.Flow.{Around as Surroundings, outside, inside, exprLabel, queryLabel, listLabel, assigned, rolesOf, mutated, listedIn, allAllowed, eachIn, mayAssign, mayUpdate, flow}
 use Rattle.model.proofs.Accepted.{accepted-facts}
-use Rattle.model.proofs.Sets.{has-zero, or-has, with-has}
+use Rattle.model.specs.Sets.{has}
+use Rattle.model.proofs.Sets.{has-zero, has-or-l, has-or-r, or-has, subset-le, has-with-same, with-has}
 use Rattle.model.proofs.Standing.{many-none, many-more, mutations-end, stmt-deep, stmt-there, stmt-known, skip-parts, assign-parts, block-parts, if-parts, while-parts, branch-parts, update-parts, transaction-parts}
 use Rattle.program.specs.declared.answer.Answer.{Answer}
 use Rattle.program.specs.declared.answer.Answer.the-variants.{At, Refused}
@@ -47,9 +48,9 @@ use Rattle.flow.specs.declared.context.Context.{Context}
 use Rattle.flow.specs.declared.lists.QueryOf.{QueryOf}
 use Rattle.flow.specs.declared.lists.QueryOf.the-variants as query
 use Rattle.flow.specs.Lists.{ListedAt, QueryAt, KnownAt, QueryRolesAt, ListRolesAt, AllowedAt}
-use Rattle.flow.specs.Context.{ContextIs, withLabels, withNamed, within, withMeets, joinOf, meetOf}
+use Rattle.flow.specs.Context.{ContextIs, FindsIdle, withLabels, withNamed, within, withMeets, joinOf, meetOf}
 use Rattle.flow.specs.Judge.{SetBelow, sidesNumber, Asked, allAbove, bothAbove, liesIn, Met, MetBoth, Held, updateNumber, AssignNumber}
-use Rattle.flow.specs.Check.{checkedTo, numbered, Ready, Inside, AroundIs, MeetsAre, Stands, StmtAt, StmtFits, CheckedAt, CodedAt, AssignAt, UpdateAt, PairAt, BranchesAt, Knowing, BothAt, LearntAt, BranchesOf, bodyStart, EnteredAt, Enters}
+use Rattle.flow.specs.Check.{checkedTo, numbered, Ready, Inside, AroundIs, MeetsAre, Stands, StmtAt, Assigns, StmtFits, CheckedAt, CodedAt, AssignAt, UpdateAt, PairAt, BranchesAt, Knowing, BothAt, LearntAt, BranchesOf, bodyStart, EnteredAt, Enters}
 use Rattle.flow.proofs.ContextLaws.{context-expr, context-query, context-list, context-same}
 use Rattle.flow.proofs.ListLaws.{query-not, query-is}
 
@@ -137,6 +138,68 @@ module _ (P R vars : ℕ) where
   mutated-below (update at ms) f = roles-below ms f
   mutated-below (transaction at start end qs a) f = mutated-below a (f .1)
 
+-- a union that is empty
+or-zero : (a b : ℕ) → bitOr a b ≡ 0 → (a ≡ 0) × (b ≡ 0)
+or-zero a b e =
+    let l : a ≤ bitOr a b = subset-le a (bitOr a b) (λ i h. has-or-l a b i h) in
+    let m : b ≤ bitOr a b = subset-le b (bitOr a b) (λ i h. has-or-r a b i h) in
+    (omega arith, omega arith)
+
+-- where nothing is assigned, nothing is in the parts
+assigns-parts : (around : Surroundings) (x a b : Stmt) → assigned x ≡ bitOr (assigned a) (assigned b) → Assigns around x → Assigns around a × Assigns around b
+unfolding Assigns
+assigns-parts outside x a b e f = (tt, tt)
+assigns-parts (inside listed xs rs) x a b e f = (λ z. or-zero (assigned a) (assigned b) (sym e ∙ f z) .0, λ z. or-zero (assigned a) (assigned b) (sym e ∙ f z) .1)
+
+assigns-if : (around : Surroundings) (e : Expr) (a b : Stmt) → Assigns around (if e a b) → Assigns around a × Assigns around b
+unfolding assigned
+assigns-if around e a b f = assigns-parts around (if e a b) a b refl f
+
+assigns-query : (around : Surroundings) (at : ℕ) (q : ModelQuery) (a b : Stmt) → Assigns around (stmtQuery at q a b) → Assigns around a × Assigns around b
+unfolding assigned
+assigns-query around at q a b f = assigns-parts around (stmtQuery at q a b) a b refl f
+
+assigns-while : (around : Surroundings) (e : Expr) (a : Stmt) → Assigns around (while e a) → Assigns around a
+unfolding Assigns assigned
+assigns-while outside e a f = tt
+assigns-while (inside listed xs rs) e a f = f
+
+assigns-body : (listed : List ModelQuery) (xs rs : ℕ) (x : Stmt) → assigned x ≡ xs → Assigns (inside listed xs rs) x
+unfolding Assigns
+assigns-body listed xs rs x e z = e ∙ z
+
+block-fits : (s p : List ℕ) (around : Surroundings) (a : Stmt) (rest : List Stmt) → StmtFits s p around (blockOf (a ∷ rest)) → StmtFits s p around a × StmtFits s p around (blockOf rest)
+unfolding blockOf assigned
+block-fits s p around a rest f =
+    let (l, m) = assigns-parts around (block a (blockOf rest)) a (blockOf rest) refl (f .1) in
+    ((f .0 .0, l), (f .0 .1, m))
+
+-- where nothing is written, what is known does not matter
+module _ (s p : List ℕ) (listed : List ModelQuery) where
+  free : (k : List ModelQuery) (C : Side → List Atom) (side : Side) → mayUpdate s p k C listed 0 0 side ≡ true
+  unfolding mayUpdate eachIn
+  free k C side = refl
+
+  orElse-same : {v v′ w w′ : Verdict} → v ≡ v′ → w ≡ w′ → orElse v w ≡ orElse v′ w′
+  orElse-same e f = rw (e, f)
+
+  unasked : (x : Stmt) → assigned x ≡ 0 → (k k′ : List ModelQuery) (C : Side → List Atom) → flow s p (inside listed 0 0) k C x ≡ flow s p (inside listed 0 0) k′ C x
+  unfolding assigned flow
+  unasked skip e k k′ C = refl
+  unasked (assign at x v) e k k′ C = absurd (true≢false (sym (has-with-same 0 x) ∙ ap (λ (n : ℕ). has n x) e ∙ has-zero x))
+  unasked empty e k k′ C = refl
+  unasked (block a b) e k k′ C = let (l, m) = or-zero (assigned a) (assigned b) e in orElse-same (unasked a l k k′ C) (unasked b m k k′ C)
+  unasked (if v a b) e k k′ C =
+      let (l, m) = or-zero (assigned a) (assigned b) e in
+      orElse-same (unasked a l k k′ (λ side. exprLabel p side v ++ C side)) (unasked b m k k′ (λ side. exprLabel p side v ++ C side))
+  unasked (while v a) e k k′ C = unasked a e k k′ (λ side. exprLabel p side v ++ C side)
+  unasked (stmtQuery at q a b) e k k′ C =
+      let (l, m) = or-zero (assigned a) (assigned b) e in
+      ap (require (listedIn q listed) 15 at)
+      (orElse-same (unasked a l (q ∷ k) (q ∷ k′) (λ side. queryLabel side q ++ C side)) (unasked b m k k′ (λ side. queryLabel side q ++ C side)))
+  unasked (update at ms) e k k′ C = rw (free k C reading, free k C trust, free k′ C reading, free k′ C trust)
+  unasked (transaction at start end qs a) e k k′ C = refl
+
 -- what stands for what, kept up
 module _ {s p t : List ℕ} {c : Context} {around : Surroundings} {known : List ModelQuery} {C : Side → List Atom} (st : Stands s p t c around known C) where
   stands-asked : Asked s p t c known C
@@ -192,7 +255,7 @@ assign-checked p t c at q x m l k n r e₁ e₂ e₃ f g h j s d code around kno
     let xe : x ≡ byte p (at + 1) = e₂ ∙ ap (byte p) (e₁ ∙ ahead-is p at 1 (omega (arith, u .inside))) in
     let me : m ≡ at + 2 = e₃ ∙ ahead-is p at 2 (u .inside) in
     let le : l ≡ exprLabels p (u .value) end = labels-are st m l (u .value) end f (rw me (u .value-read)) in
-    let w = rw (u .is) at fit in
+    let w = rw (u .is) at (fit .0) in
     let b = under-expr st l k (u .value) end le g (w .1) in
     let v = h s known (λ side. exprLabel p side (u .value) ++ C side) (stands-asked b) (rw xe (u .fits)) in
     rw (u .is, j, v, le, ← xe)
@@ -302,7 +365,7 @@ ready-too s t k ready l = record { is-accepted = ready .is-accepted; long = l }
 -- the branches of a query: the first by the table k and the words b, which also know it, the second by the table t
 module _ (s p k t : List ℕ) (b c : Context) (d at : ℕ) (o : Answer) (f : CheckedAt s p k b d at o) where
   first-branch : (q : ModelQuery) → Knowing s p k t b c q → (around : Surroundings) (known : List ModelQuery) (C : Side → List Atom) (x : Stmt) (mid : ℕ)
-      → QueryFits (roles s) q → Stands s p t c around known C → StmtAt s p d at x mid → StmtFits s p x
+      → QueryFits (roles s) q → Stands s p t c around known C → StmtAt s p d at x mid → StmtFits s p around x
       → reachedBy o ≡ checkedTo (flow s p around (q ∷ known) C x) mid
   unfolding CheckedAt Knowing
   first-branch q l around known C x mid fits st h fit = f around (q ∷ known) C x mid (l around known C fits st) h fit
@@ -345,6 +408,19 @@ held-both s p k t b c d at r h f q l = f q (knowing-learnt s p k t q l b c h)
 knowing-same : (s p t : List ℕ) (q : ModelQuery) → Learnt (roles s) t t q → (c : Context) → Knowing s p t t c c q
 knowing-same s p t q l c = knowing-by s p t t q l c c refl refl refl (λ around _ h. h)
 
+-- a query in a transaction that writes nothing
+pub asked-idle : (s p t : List ℕ) (c : Context) (d at asked : ℕ) (b : Bool) (r : Answer) → FindsIdle c b → b ≡ true → PairAt s p t c d at r → BranchesOf s p t c d at asked r
+unfolding FindsIdle PairAt BranchesOf BranchesAt Assigns
+asked-idle s p t c d at asked b r f z g q end i around known C x y mid after below st h fit h′ fit′ =
+    let idle = f z in
+    let w = within-one p (roles s) (variables p) (c .around) around (st .surrounded) (idle .is-inside) in
+    let xs : w .xs ≡ 0 = sym (w .parts .variables-are) ∙ idle .no-variables in
+    let rs : w .rs ≡ 0 = sym (w .parts .roles-are) ∙ idle .no-roles in
+    let is : around ≡ inside (w .listed) 0 0 = w .is ∙ rw (xs, rs) in
+    let none : assigned x ≡ 0 = subst (λ (a : Surroundings). Assigns a x) is (fit .1) refl in
+    let same : flow s p around known C x ≡ flow s p around (q ∷ known) C x = rw is (unasked s p (w .listed) x none known (q ∷ known) C) in
+    g around known C x y mid after st h fit h′ fit′ ∙ ap (λ (v : Verdict). checkedTo (orElse v (flow s p around known C y)) after) same
+
 -- a query that the table knows
 pub asked-known : (s p t : List ℕ) (c : Context) (d at asked : ℕ) (b : Bool) (r : Answer) → KnownAt p t asked b → b ≡ true → BothAt s p t t c c d at r → BranchesOf s p t c d at asked r
 unfolding KnownAt BothAt BranchesOf
@@ -380,13 +456,13 @@ module _ (s p t : List ℕ) (c : Context) (d at : ℕ) where
   pub record Blocked (around : Surroundings) (known : List ModelQuery) (C : Side → List Atom) (left next : ℕ) (x : Stmt) (end : ℕ) : Type 0 where
     pub rest : List Stmt
     pub rest-read : readMany (readStmt p (principals s) (roles s) (variables p) (d - 1)) left next ≡ got rest end
-    pub rest-fits : StmtFits s p (blockOf rest)
+    pub rest-fits : StmtFits s p around (blockOf rest)
     pub same : flow s p around known C x ≡ flow s p around known C (blockOf rest)
 
   unfoldable pub Blocking : ℕ → ℕ → Type 0
   Blocking left next =
       (around : Surroundings) (known : List ModelQuery) (C : Side → List Atom) (x : Stmt) (end : ℕ) → byte p at ≡ 2
-      → Stands s p t c around known C → StmtAt s p d at x end → StmtFits s p x → Blocked around known C left next x end
+      → Stands s p t c around known C → StmtAt s p d at x end → StmtFits s p around x → Blocked around known C left next x end
 
   pub block-start : (q left next : ℕ) → q ≡ ahead p at 1 → left ≡ byte p q → next ≡ ahead p at 2 → Blocking left next
   unfolding Blocking
@@ -410,7 +486,7 @@ module _ (s p t : List ℕ) (c : Context) (d at : ℕ) where
       block-refused k place e code around known C x end st h fit =
           let u = inv around known C x end code st h fit in
           let v = many-more _ left next (u .rest-read) some in
-          let w = rw (v .is) at (u .rest-fits) in
+          let w = block-fits s p around (v .head) (v .tail) (rw (v .is) at (u .rest-fits)) in
           rw (u .same, v .is) (or-stopped _ _ (v .mid) end (reachedBy o) (f around known C (v .head) (v .mid) st (v .head-read) (w .0)) k place (ap reachedBy e))
 
       pub block-more : (m : ℕ) → o ≡ At m → Blocking (left - 1) m
@@ -418,7 +494,7 @@ module _ (s p t : List ℕ) (c : Context) (d at : ℕ) where
       block-more m e around known C x end code st h fit =
           let u = inv around known C x end code st h fit in
           let v = many-more _ left next (u .rest-read) some in
-          let w = rw (v .is) at (u .rest-fits) in
+          let w = block-fits s p around (v .head) (v .tail) (rw (v .is) at (u .rest-fits)) in
           let g = f around known C (v .head) (v .mid) st (v .head-read) (w .0) in
           let k : m ≡ v .mid = reached-is _ fine (v .mid) end (reachedBy o) g m (ap reachedBy e) in
           record {
@@ -439,10 +515,11 @@ module _ (s p t : List ℕ) (c : Context) (d at : ℕ) where
         let u = if-parts p (principals s) (roles s) (variables p) d at i code in
         let qe : q ≡ at + 1 = e ∙ ahead-is p at 1 (omega (arith, stmt-there p (principals s) (roles s) (variables p) d at i)) in
         let le : l ≡ exprLabels p (u .test) (u .start) = labels-are st q l (u .test) (u .start) f (rw qe (u .test-read)) in
-        let w = rw (u .is) at fit in
+        let w = rw (u .is) at (fit .0) in
+        let (wl, wr) = assigns-if around (u .test) (u .left) (u .right) (rw (u .is) at (fit .1)) in
         rw (u .is)
         (h around known (λ side. exprLabel p side (u .test) ++ C side) (u .left) (u .right) (u .mid) end
-        (under-expr st l k (u .test) (u .start) le g (w .0)) (rw le (u .left-read)) (w .1) (u .right-read) (w .2))
+        (under-expr st l k (u .test) (u .start) le g (w .0)) (rw le (u .left-read)) (w .1, wl) (u .right-read) (w .2, wr))
 
     pub while-checked : CheckedAt s p t k (d - 1) (l .next) r → CodedAt While s p t c d at r
     unfolding CodedAt CheckedAt flow
@@ -450,10 +527,11 @@ module _ (s p t : List ℕ) (c : Context) (d at : ℕ) where
         let u = while-parts p (principals s) (roles s) (variables p) d at i code in
         let qe : q ≡ at + 1 = e ∙ ahead-is p at 1 (omega (arith, stmt-there p (principals s) (roles s) (variables p) d at i)) in
         let le : l ≡ exprLabels p (u .test) (u .start) = labels-are st q l (u .test) (u .start) f (rw qe (u .test-read)) in
-        let w = rw (u .is) at fit in
+        let w = rw (u .is) at (fit .0) in
+        let wb = assigns-while around (u .test) (u .body) (rw (u .is) at (fit .1)) in
         rw (u .is)
         (h around known (λ side. exprLabel p side (u .test) ++ C side) (u .body) end
-        (under-expr st l k (u .test) (u .start) le g (w .0)) (rw le (u .body-read)) (w .1))
+        (under-expr st l k (u .test) (u .start) le g (w .0)) (rw le (u .body-read)) (w .1, wb))
 
   -- a query
   pub query-outside : c .around .inside ≡ false → CodedAt Query s p t c d at (Refused 15 at)
@@ -485,7 +563,8 @@ module _ (s p t : List ℕ) (c : Context) (d at : ℕ) where
           let u = branch-parts p (principals s) (roles s) (variables p) d at h code in
           let v = within-one p (roles s) (variables p) (c .around) around (st .surrounded) e in
           let b = listed-is (u .asked) (v .listed) (v .parts .end) (at + 3) (u .asked-parts .inside) (v .parts .listed-read) (u .asked-read) in
-          let fits = rw (u .is) at fit in
+          let fits = rw (u .is) at (fit .0) in
+          let (wl, wr) = assigns-query around at (u .asked) (u .left) (u .right) (rw (u .is) at (fit .1)) in
           let me : m ≡ at + 1 = w ∙ ahead-is p at 1 (omega (arith, u .asked-parts .inside)) in
           let asked : readQuery p (roles s) m ≡ got (u .asked) (at + 3) = rw me (u .asked-read) in
           let kc : k ≡ withNamed c (queryRoles (u .asked)) = ek ∙ ap (withNamed c) (f (roles s) (u .asked) (at + 3) asked) in
@@ -493,7 +572,7 @@ module _ (s p t : List ℕ) (c : Context) (d at : ℕ) where
           let se : start ≡ at + 3 = es ∙ ahead-is p at 3 (omega (arith, u .asked-parts .inside)) in
           rw (u .is, v .is, sym b ∙ le)
           (rw (v .is) at (g (u .asked) (at + 3) asked around known (λ side. queryLabel side (u .asked) ++ C side) (u .left) (u .right) (u .mid) end
-          (fits .0) (stands-context st (ap (λ (c : Context). c .around) kc) (ap (λ (c : Context). c .meets) kc) cq) (rw se (u .left-read)) (fits .1) (u .right-read) (fits .2)))
+          (fits .0) (stands-context st (ap (λ (c : Context). c .around) kc) (ap (λ (c : Context). c .meets) kc) cq) (rw se (u .left-read)) (fits .1, wl) (u .right-read) (fits .2, wr)))
 
       pub query-listed : (r : Answer) → BranchesOf s p t k (d - 1) start m r → CodedAt Query s p t c d at r
       unfolding BranchesOf
@@ -512,7 +591,7 @@ module _ (s p t : List ℕ) (c : Context) (d at : ℕ) where
   transaction-body m k r e me f g code around known C x end st h fit =
       let u = transaction-parts p (principals s) (roles s) (variables p) d at h code in
       let w = within-none p (roles s) (variables p) (c .around) around (st .surrounded) e in
-      let fits = rw (u .is) at fit in
+      let fits = rw (u .is) at (fit .0) in
       let b = f .around in
       let v = f .entered (principals s) (roles s) (variables p) (u .listed) (u .body) end (roles-few st) (st .few) (u .inside) (u .listed-read) (fits .0) (u .body-read) (fits .1) in
       let z = f .held .by in
@@ -527,7 +606,7 @@ module _ (s p t : List ℕ) (c : Context) (d at : ℕ) where
         surrounded = rw ke v;
         met = rw ke (met-same p t z (v .variables-are) (v .roles-are) (f .held .right));
         context = context-same (roles s) c k C (rw ke) (rw ke) (st .context);
-      }) (rw mm (u .body-read)) (fits .1))
+      }) (rw mm (u .body-read)) (fits .1, assigns-body (u .listed) (assigned (u .body)) (mutated (u .body)) (u .body) refl))
 
   -- any statement
   pub stmt-none : (r : Answer) → d ≡ 0 → CheckedAt s p t c d at r

@@ -1,8 +1,8 @@
 -- What the code joins to a context's words is what the rules join to the context: an expression's label, the labels of queries.
-use mathlib.Core.Path.{_≡_, refl, sym}
+use mathlib.Core.Path.{_≡_, refl, sym, _∙_}
 use Prim.Native.Nat.{ℕ, _^_, _<_, _≤_}
 use mathlib.Core.List.{List, [], _∷_, _++_}
-use mathlib.Core.Bool.{Bool, true, false, cond}
+use mathlib.Core.Bool.{Bool, true, false, cond, false≢true}
 use lib.Bits.{or-comm}
 use lib.Dec.{eqb}
 use borrow.Author.Tests.{eqb-true, eqb-false}
@@ -21,7 +21,7 @@ use Rattle.flow.specs.declared.context.Around.{Around}
 use Rattle.flow.specs.declared.context.Join.{Join}
 use Rattle.flow.specs.declared.context.Meets.{Meets}
 use Rattle.flow.specs.declared.context.Context.{Context}
-use Rattle.flow.specs.Context.{ContextIs, noTransaction, noLabels, noMeets, joinWith, noContext, withLabels, withNamed, joinOf}
+use Rattle.flow.specs.Context.{ContextIs, FindsIdle, noTransaction, noLabels, noMeets, joinWith, noContext, withLabels, withNamed, joinOf}
 
 -- a label's byte is that of its atom
 module _ (b : ℕ) where
@@ -113,6 +113,18 @@ module _ (n : ℕ) (c : Context) (C : Side → List Atom) (is : ContextIs n c C)
       joined = named-last (λ side. listLabel side qs) (listRoles qs) (λ side. joins-list side n few qs f);
       below = λ side. below-append n (is .below side) (below-list n side qs f);
     }
+
+-- a transaction that writes nothing
+module _ (c : Context) where
+  pub idle-not : FindsIdle c false
+  unfolding FindsIdle
+  idle-not e = absurd (false≢true e)
+
+  pub idle-is : (b : Bool) → c .around .inside ≡ true → c .around .variables ≡ 0 → b ≡ eqb (c .around .roles) 0 → FindsIdle c b
+  unfolding FindsIdle
+  idle-is b e f g h = record { is-inside = e; no-variables = f; no-roles = eqb-true _ 0 (sym g ∙ h) }
+
+pub ruleset idles = (idle-not, idle-is)
 
 -- the words of each function of context.rt
 pub start-is : (a : Around) (j k : Join) (m : Meets) → a ≡ noTransaction → j ≡ noLabels → k ≡ noLabels → m ≡ noMeets

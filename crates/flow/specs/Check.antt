@@ -75,14 +75,20 @@ pub record Stands (s p t : List ℕ) (c : Context) (around : Surroundings) (know
 abbrev pub StmtAt : List ℕ → List ℕ → ℕ → ℕ → Stmt → ℕ → Type 0
 StmtAt s p depth at x end = readStmt p (principals s) (roles s) (variables p) depth at ≡ got x end
 
-abbrev pub StmtFits : List ℕ → List ℕ → Stmt → Type 0
-StmtFits s p x = Fits (principals s) (roles s) (variables p) x
+-- where the transaction around assigns nothing, neither does what stands in it
+unfoldable pub Assigns : Surroundings → Stmt → Type 0
+Assigns outside x = Unit {0}
+Assigns (inside listed xs rs) x = xs ≡ 0 → assigned x ≡ 0
+
+-- it names only what there is
+abbrev pub StmtFits : List ℕ → List ℕ → Surroundings → Stmt → Type 0
+StmtFits s p around x = Fits (principals s) (roles s) (variables p) x × Assigns around x
 
 -- r is the answer on the statement that stands at a position
 unfoldable pub CheckedAt : List ℕ → List ℕ → List ℕ → Context → ℕ → ℕ → Answer → Type 0
 CheckedAt s p t c depth at r =
     (around : Surroundings) (known : List Query) (C : Side → List Atom) (x : Stmt) (end : ℕ)
-    → Stands s p t c around known C → StmtAt s p depth at x end → StmtFits s p x
+    → Stands s p t c around known C → StmtAt s p depth at x end → StmtFits s p around x
     → reachedBy r ≡ checkedTo (flow s p around known C x) end
 
 -- the same where its code is the given one
@@ -100,7 +106,7 @@ UpdateAt s p c at r = (t : List ℕ) (depth : ℕ) → byte p at ≡ 6 → Check
 unfoldable pub PairAt : List ℕ → List ℕ → List ℕ → Context → ℕ → ℕ → Answer → Type 0
 PairAt s p t c depth at r =
     (around : Surroundings) (known : List Query) (C : Side → List Atom) (x y : Stmt) (mid end : ℕ)
-    → Stands s p t c around known C → StmtAt s p depth at x mid → StmtFits s p x → StmtAt s p depth mid y end → StmtFits s p y
+    → Stands s p t c around known C → StmtAt s p depth at x mid → StmtFits s p around x → StmtAt s p depth mid y end → StmtFits s p around y
     → reachedBy r ≡ checkedTo (orElse (flow s p around known C x) (flow s p around known C y)) end
 
 -- the same of the branches of the query q: the first also knows it
@@ -108,7 +114,7 @@ unfoldable pub BranchesAt : List ℕ → List ℕ → List ℕ → Context → �
 BranchesAt s p t c depth at q r =
     (around : Surroundings) (known : List Query) (C : Side → List Atom) (x y : Stmt) (mid end : ℕ)
     → QueryFits (roles s) q → Stands s p t c around known C
-    → StmtAt s p depth at x mid → StmtFits s p x → StmtAt s p depth mid y end → StmtFits s p y
+    → StmtAt s p depth at x mid → StmtFits s p around x → StmtAt s p depth mid y end → StmtFits s p around y
     → reachedBy r ≡ checkedTo (orElse (flow s p around (q ∷ known) C x) (flow s p around known C y)) end
 
 -- the table k and the words b stand for what the table t and the words c stand for, with the query q known too

@@ -1,7 +1,8 @@
 -- What surrounds a statement as the words that the code carries.
 use Prim.Native.Nat.{ℕ}
 use mathlib.Core.List.{List}
-use mathlib.Core.Bool.{false}
+use mathlib.Core.Path.{_≡_}
+use mathlib.Core.Bool.{Bool, true, false}
 use lib.Bits.{bitOr}
 use Rattle.model.specs.Policy.{Side, reading, trust}
 use Rattle.model.specs.Syntax.{Atom}
@@ -45,6 +46,16 @@ within c a = record { around = a; reading = c .reading; trust = c .trust; meets 
 -- with an update held to these
 abbrev pub withMeets : Context → Meets → Context
 withMeets c m = record { around = c .around; reading = c .reading; trust = c .trust; meets = m }
+
+-- that of a transaction that writes nothing
+pub record Idle (c : Context) : Type 0 where
+  pub is-inside : c .around .inside ≡ true
+  pub no-variables : c .around .variables ≡ 0
+  pub no-roles : c .around .roles ≡ 0
+
+-- r is true only then
+unfoldable pub FindsIdle : Context → Bool → Type 0
+FindsIdle c r = r ≡ true → Idle c
 
 -- the join on a side
 abbrev pub joinOf : Side → Context → Join

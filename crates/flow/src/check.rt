@@ -286,8 +286,9 @@ fn check_query(
     Answer::Refused(number::FLOW_TRANSACTION, at)
 }
 
-// The branches of the query that stands at `asked`. One that the table knows already needs no table of its own: so however
-// deep queries nest, no more tables are held at once than a transaction lists queries.
+// The branches of the query that stands at `asked`. In a transaction that writes nothing no table is asked, so what it knows
+// does not matter. A query that the table knows already needs no table of its own: so however deep queries nest, no more
+// tables are held at once than a transaction lists queries.
 fn check_asked(
     policy: &[u8],
     program: &[u8],
@@ -300,6 +301,9 @@ fn check_asked(
     requires { ⌜ Ready (now policy) (now table) ⌝ }
     ensures { λ r. ⌜ BranchesOf (now (policy .entry)) (now (program .entry)) (now (table .entry)) context depth at asked r ⌝ }
 {
+    if context::is_idle(context) {
+        return check_pair(policy, program, table, context, depth, at);
+    }
     if lists::is_known(program, table, asked) {
         return check_branches(policy, program, table, table, context, context, depth, at);
     }

@@ -2,7 +2,7 @@
 // the context of each side, and what an update here is held to. A context is a join of labels, carried as two words.
 ghost use mathlib.Core.Path.{_≡_};
 ghost use Rattle.program.specs.Layout.{sideOf};
-ghost use Rattle.flow.specs.Context.{noTransaction, noLabels, noMeets, joinWith, noContext, withLabels, withNamed, within, withMeets, joinOf};
+ghost use Rattle.flow.specs.Context.{noTransaction, noLabels, noMeets, joinWith, noContext, withLabels, withNamed, within, withMeets, FindsIdle, joinOf};
 use gathered::labels::Labels;
 
 // Inside a transaction: where its `count` listed queries stand, the roles that they name, and all the variables and roles
@@ -153,6 +153,20 @@ pub fn with_meets(context: Context, meets: Meets) -> Context
         trust,
         meets,
     }
+}
+
+// Whether it is that of a transaction that writes nothing.
+pub fn is_idle(context: Context) -> bool
+    ensures { λ r. ⌜ FindsIdle context r ⌝ }
+{
+    let around = context.around;
+    if around.inside {
+        if around.variables == 0 {
+            return around.roles == 0;
+        }
+        return false;
+    }
+    false
 }
 
 // The context's join on a side.

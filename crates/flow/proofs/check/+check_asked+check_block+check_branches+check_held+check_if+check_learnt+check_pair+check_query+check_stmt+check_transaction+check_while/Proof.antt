@@ -1,6 +1,6 @@
 -- The cycle of checks: each return is the verdict of the tree that stands at the position, by a law for that return; the
 -- remaining depth falls, and where it stays each callee comes after its caller. A block: what is left of it decides.
-use Rattle.flow.proofs.CheckLaws.{Blocking, pair-first, pair-second, few-roles, ready-too, branches-first, branches-second, held-both, asked-known, learnt-none, learnt-both, block-start, block-done, block-refused, block-more, block-skip, if-checked, while-checked, query-outside, query-unlisted, query-listed, transaction-nested, transaction-body, stmt-none, stmt-unknown, stmt-skip, stmt-assign, stmt-update, stmt-coded}
+use Rattle.flow.proofs.CheckLaws.{Blocking, pair-first, pair-second, few-roles, ready-too, branches-first, branches-second, held-both, asked-idle, asked-known, learnt-none, learnt-both, block-start, block-done, block-refused, block-more, block-skip, if-checked, while-checked, query-outside, query-unlisted, query-listed, transaction-nested, transaction-body, stmt-none, stmt-unknown, stmt-skip, stmt-assign, stmt-update, stmt-coded}
 use borrow.Author.Needs.{needs}
 use Prim.Native.Nat.{ℕ, _<_, _+_, _*_}
 use borrow.Fn.Kinds.{In}
@@ -42,6 +42,7 @@ use Rattle.flow.proofs.check.body_context.Reads as body-context-reads
 use Rattle.flow.proofs.check.check_assign.Reads as check-assign-reads
 use Rattle.flow.proofs.check.check_update.Reads as check-update-reads
 use Rattle.flow.proofs.check.is_skip.Reads as is-skip-reads
+use Rattle.flow.proofs.context.is_idle.Reads as is-idle-reads
 use Rattle.flow.proofs.context.with_labels.Reads as with-labels-reads
 use Rattle.flow.proofs.context.with_named.Reads as with-named-reads
 use Rattle.flow.proofs.judge.held.Reads as held-reads
@@ -224,6 +225,10 @@ pub +check-asked+check-block+check-branches+check-held+check-if+check-learnt+che
     μ-check-transaction
     μ-check-while
     (λ t. check-asked-lts.spec (
+      is-idle-reads.Asked,
+      is-idle-reads.Learnt,
+      check-pair-below t,
+      check-pair.Post,
       is-known-reads.Asked,
       is-known-reads.Learnt,
       check-branches-below t,
@@ -233,6 +238,9 @@ pub +check-asked+check-block+check-branches+check-held+check-if+check-learnt+che
     )
     (check-asked-at t)
     check-asked.Post
+    (λ c κs. search needs)
+    (λ c κs. search needs)
+    (λ c. search (needs, asked-idle))
     (λ c κs. search needs)
     (λ c κs. search needs)
     (λ c. search (needs, asked-known))
