@@ -11,6 +11,7 @@ pub mod Taking
 pub mod Fixed
 pub mod Enough
 pub mod Least
+pub mod Columns
 pub mod Memory
 pub mod Meaning
 pub mod Beyond

@@ -100,13 +100,13 @@ allowed-fixed f addTaken r x h l = may-take-fixed f r x h l
 allowed-fixed f deleteTaken r x h l = refl
 
 -- what the members and the takes of the named row become
-abbrev membersAfter : List ℕ → Kind → ℕ → ℕ → ℕ
+abbrev pub membersAfter : List ℕ → Kind → ℕ → ℕ → ℕ
 membersAfter s addMember r x = with (members s r) x
 membersAfter s deleteMember r x = without (members s r) x
 membersAfter s addTaken r x = members s r
 membersAfter s deleteTaken r x = members s r
 
-abbrev takesAfter : List ℕ → Kind → ℕ → ℕ → ℕ
+abbrev pub takesAfter : List ℕ → Kind → ℕ → ℕ → ℕ
 takesAfter s addMember r x = takes s r
 takesAfter s deleteMember r x = takes s r
 takesAfter s addTaken r x = with (takes s r) x
@@ -135,7 +135,7 @@ module _ (s : List ℕ) (r v : ℕ) (ok : Accepted s) (l : r < roles s) where
   )
 
 -- the named row after a mutation
-mutate-row : (s : List ℕ) (k : Kind) (r x : ℕ) → Accepted s → r < roles s → x < operandBelow s k
+pub mutate-row : (s : List ℕ) (k : Kind) (r x : ℕ) → Accepted s → r < roles s → x < operandBelow s k
     → (members (mutate s k r x) r ≡ membersAfter s k r x) × (takes (mutate s k r x) r ≡ takesAfter s k r x)
 unfolding mutate
 mutate-row s addMember r x a h l = put-members s r _ a h (with-below (principals s) (members s r) x (accepted-facts s a .row r h .members-below) l)

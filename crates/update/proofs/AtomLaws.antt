@@ -140,14 +140,19 @@ module _ (s w : List ℕ) (b n : ℕ) (h : FixedLive s w) (d : b ≡ roles s) (e
 
 pub ruleset fronts = (refreshed, front-inside, front-count, front-long)
 
+-- the sets of all atoms are those of viewers, trusters and everyone too
+pub fixed-of : (s w : List ℕ) → Live s w → FixedLive s w
+unfolding atomSet
+fixed-of s w h = record { accepted = h .accepted; long = h .long; sets = λ f l. h .sets (fixed f) l }
+
 -- what the fixed part gives stays right for every policy that has the same
-pub fixed-stays : (s t w : List ℕ) → Live s w → SameFixed s t → Accepted t → FixedLive t w
-unfolding atomSet fixedSet
+pub fixed-stays : (s t w : List ℕ) → FixedLive s w → SameFixed s t → Accepted t → FixedLive t w
+unfolding fixedSet
 fixed-stays s t w h f ok = record { accepted = ok; long = h .long; sets = sets }
   where
     sets : (a : Fixed) → AtomFits (roles t) (fixed a) → getD w (atomByte (fixed a)) 0 ≡ fixedSet t a
-    sets (of side j) l = let k : j < roles s = rw (f .same-roles) l in h .sets (fixed (of side j)) k ∙ watchers-fixed f side j k
-    sets everyone l = h .sets (fixed everyone) tt ∙ rw (f .same-principals)
+    sets (of side j) l = let k : j < roles s = rw (f .same-roles) l in h .sets (of side j) k ∙ watchers-fixed f side j k
+    sets everyone l = h .sets everyone tt ∙ rw (f .same-principals)
 
 -- a query by the words of its atoms, whose bytes are wider as a and b
 pub words-tested : (w : List ℕ) (first second a b : ℕ) → a ≡ first → b ≡ second

@@ -1,49 +1,107 @@
 -- What carrying out an update gives, from its parts, and that an update and a list that stand under one policy do under another.
-use mathlib.Core.Path.{_≡_, sym, _∙_}
-use Prim.Native.Nat.{ℕ, _≤_}
+use mathlib.Core.Path.{_≡_, refl, sym, _∙_}
+use Prim.Native.Nat.{ℕ, zero, suc, _-_, _≤_}
+use native.Mathlib.Omega.{arith}
 use mathlib.Core.List.{List}
-use mathlib.Core.Bool.{Bool, not}
-use lib.ListN.{length}
+use mathlib.Core.Bool.{Bool, true, false, not, _&&_, _||_}
+use lib.ListN.{length, getD}
 use Rattle.model.specs.Limits.{listLimit}
 use Rattle.model.specs.Sets.{within}
-use Rattle.model.specs.Policy.{Accepted, SameFixed}
-use Rattle.update.specs.Live.{atomWords, Live, FixedLive}
+use Rattle.model.specs.Policy.{roles, SameFixed}
+use Rattle.model.specs.Syntax.{Query}
+use Rattle.model.specs.Program.{got, readMany, readQuery}
+use Rattle.model.specs.Atoms.{holds}
+use Rattle.model.specs.Run.{broken}
+use Rattle.model.proofs.Reading.{query-fits}
+use Rattle.model.proofs.Standing.{many-none, many-more}
+use Rattle.update.specs.Live.{atomWords, Live}
+use Rattle.update.specs.Index.{staleAt, indexWords, Tracked, Settled}
 use Rattle.update.specs.Mutations.{Mutable, Mutated}
 use Rattle.update.specs.Listed.{Listing, HeldAt}
-use Rattle.update.specs.Change.{CarriedOut}
-use Rattle.update.proofs.AtomLaws.{fixed-stays}
+use Rattle.update.specs.Change.{Judged, CarriedOut}
+use Rattle.update.proofs.AtomLaws.{live-holds}
+use Rattle.update.proofs.SettleLaws.{settled-already}
 use Rattle.update.proofs.MutationLaws.{granted-stays}
 use Rattle.update.proofs.ListedLaws.{broken-bits}
 
-module _ (s w : List ℕ) (live : Live s w) where
-  pub live-long : length w ≡ atomWords
-  live-long = live .long
+-- a query holds under two policies alike, where the words hold the sets of both; so none breaks
+module _ (s t w : List ℕ) (old : Live s w) (new : Live t w) (p : List ℕ) (same : roles s ≡ roles t) where
+  none-broken : (n at : ℕ) {qs : List Query} {end : ℕ} → readMany (readQuery p (roles s)) n at ≡ got qs end → broken qs s t ≡ false
+  unfolding broken
+  none-broken zero at h = let e = many-none (readQuery p (roles s)) zero at h (omega arith) in rw (e .0) refl
+  none-broken (suc n) at h =
+      let v = many-more (readQuery p (roles s)) (suc n) at h (omega arith) in
+      let k : suc n - 1 ≡ n = omega arith in
+      let fits = query-fits p (roles s) at (v .head-read) in
+      let one = live-holds s w old (v .head) fits in
+      let two = live-holds t w new (v .head) (rw (← same) fits) in
+      rw (v .is, sym one ∙ two, none-broken n (v .mid) (rw k at (v .tail-read))) (never (holds t (v .head)))
+    where
+      never : (b : Bool) → ((b && not b) || false) ≡ false
+      never true = refl
+      never false = refl
 
-  pub live-accepted : Accepted s
-  live-accepted = live .accepted
+module _ (s w i : List ℕ) where
+  pub settled-tracked : Settled s w i → Tracked s w i
+  settled-tracked h = h .tracked
 
-  pub live-stays : (p t : List ℕ) (at : ℕ) → Mutated p s at t → FixedLive t w
-  live-stays p t at h = fixed-stays s t w live (h .same-fixed) (h .accepted)
+  pub tracked-atoms : Tracked s w i → length w ≡ atomWords
+  tracked-atoms h = h .fixed-live .long
 
-  pub carried : (p t u : List ℕ) (at listing count before after : ℕ) (b : Bool) → Mutated p s at t → Live t u → length t ≡ length s
-      → HeldAt p listing count w before → HeldAt p listing count u after → b ≡ within before after → CarriedOut p s at listing count t u (not b)
-  unfolding HeldAt
-  carried p t u at listing count before after b made new long held now e = record {
-    live = new;
+  -- none is listed
+  pub carried-none : (p t i₁ : List ℕ) (at listing count : ℕ) → count ≡ 0 → Mutated p s at t w i₁ → length t ≡ length s → CarriedOut p s at listing count t w i₁ false
+  unfolding broken
+  carried-none p t i₁ at listing count z made long = record {
+    tracked = made .tracked;
     same-fixed = made .same-fixed;
     same-length = long;
     made = made .made;
-    judged = λ qs end h.
-        let x = held s live qs end h in
-        let y = now t new qs end (rw (← made .same-fixed .same-roles) h) in
+    judged = λ qs end h. let e = many-none (readQuery p (roles s)) count listing h (omega arith) in rw (e .0) refl;
+  }
+
+  pub carried : (p t u i₁ i₂ : List ℕ) (at listing count : ℕ) (b : Bool) → Settled s w i → Mutated p s at t w i₁ → Judged p listing count t w u i₂ b → length t ≡ length s
+      → CarriedOut p s at listing count t u i₂ b
+  carried p t u i₁ i₂ at listing count b h made j long = record {
+    tracked = j .tracked;
+    same-fixed = made .same-fixed;
+    same-length = long;
+    made = made .made;
+    judged = j .judged s (h .live) (made .same-fixed .same-roles);
+  }
+
+module _ (p : List ℕ) (listing count : ℕ) (t w i : List ℕ) where
+  -- no place is stale by the mutations
+  pub judged-still : (x : ℕ) → Tracked t w i → x ≡ getD i staleAt 0 → x ≡ 0 → Judged p listing count t w w i false
+  judged-still x h e z = record {
+    tracked = h;
+    judged = λ s live same qs end r. sym (none-broken s t w live (settled-already t w i h x e z .live) p same count listing r);
+  }
+
+  pub judged-so : (u i₁ : List ℕ) (before after : ℕ) (b : Bool) → Settled t u i₁ → HeldAt p listing count w before → HeldAt p listing count u after → b ≡ within before after
+      → Judged p listing count t w u i₁ (not b)
+  unfolding HeldAt
+  judged-so u i₁ before after b new held now e = record {
+    tracked = new .tracked;
+    judged = λ s live same qs end r.
+        let x = held s live qs end r in
+        let y = now t (new .live) qs end (rw (← same) r) in
         sym (broken-bits s t qs ∙ rw (← x, ← y, ← e));
   }
+
+pub settled-atoms : (s w i : List ℕ) → Settled s w i → length w ≡ atomWords
+settled-atoms s w i h = h .live .long
+
+pub made-tracked : (p s t w i : List ℕ) (at : ℕ) → Mutated p s at t w i → Tracked t w i
+made-tracked p s t w i at h = h .tracked
+
+pub tracked-index : (s w i : List ℕ) → Tracked s w i → length i ≡ indexWords
+tracked-index s w i h = h .indexed .long
 
 pub few-listed : (p s : List ℕ) (count at : ℕ) → Listing p s count at → count ≤ listLimit
 unfolding Listing
 few-listed p s count at h = h .few
 
-pub ruleset carries = (live-long, live-accepted, live-stays, carried, few-listed)
+pub ruleset carries = (settled-tracked, settled-atoms, tracked-atoms, tracked-index, made-tracked, carried-none, carried, judged-still, judged-so, few-listed)
 
 -- Where the update and the list of an accepted program stand, they do under every policy with the same fixed part.
 module _ (p s t : List ℕ) (f : SameFixed s t) where

@@ -1,4 +1,5 @@
 pub mod Live
+pub mod Index
 pub mod Mutations
 pub mod Listed
 pub mod Change

@@ -1,7 +1,7 @@
 // The sets of all atoms, a word for each byte that an atom may have: a role's meaning, its viewers, its trusters, everyone.
 // A query is two words and a test. An update leaves all but the meanings as they are, since they are of the fixed part.
 ghost use mathlib.Core.Path.{_≡_};
-ghost use Prim.Native.Nat.{_-_, _^_, _≤_};
+ghost use Prim.Native.Nat.{_-_, _^_, _<_, _≤_};
 ghost use lib.ListN.{length, getD};
 ghost use Rattle.model.specs.Limits.{principalLimit, roleLimit};
 ghost use Rattle.model.specs.Sets.{within};
@@ -67,6 +67,14 @@ pub fn load(policy: &[u8], atoms: &mut [u32])
 {
     load_fixed(policy, atoms);
     refresh(policy, atoms);
+}
+
+// The set of an atom, by its byte.
+pub fn set_of(atoms: &[u32], k: usize) -> u32
+    requires { ⌜ k < length (now atoms) ⌝ }
+    ensures { λ r. ⌜ r ≡ getD (now (atoms .entry)) k 0 ⌝ }
+{
+    atoms[k]
 }
 
 // Whether a query holds: the second atom's set lies in the first's.

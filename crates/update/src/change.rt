@@ -1,15 +1,72 @@
 // An update: its mutations in the policy's bytes, the sets of the atoms after them, and whether a listed query broke.
-ghost use Rattle.update.specs.Live.{Live};
+ghost use mathlib.Core.Path.{_≡_};
+ghost use Prim.Native.Nat.{_≤_};
+ghost use lib.ListN.{length, replicate};
+ghost use Rattle.model.specs.Limits.{listLimit};
+ghost use Rattle.model.specs.Policy.{Accepted};
+ghost use Rattle.update.specs.Live.{atomWords};
+ghost use Rattle.update.specs.Index.{indexWords, Tracked, Settled};
 ghost use Rattle.update.specs.Mutations.{Mutable};
 ghost use Rattle.update.specs.Listed.{Listing};
-ghost use Rattle.update.specs.Change.{CarriedOut};
+ghost use Rattle.update.specs.Change.{Judged, CarriedOut};
 use super::atoms;
+use super::index;
 use super::listed;
 use super::mutations;
+use super::settle;
 use shared::sets;
 
+// What is tracked of a policy when a run begins, in words of which those of the index are 0.
+pub fn track(policy: &[u8], atoms: &mut [u32], index: &mut [u64])
+    requires { ⌜ (Accepted (now policy)) × (length (now atoms) ≡ atomWords) × (now index ≡ replicate indexWords 0) ⌝ }
+    ensures { λ _. ⌜ Tracked (now (policy .entry)) (now (atoms .exit)) (now (index .exit)) ⌝ }
+{
+    atoms::load(policy, atoms);
+    index::load(policy, index);
+}
+
+// Whether a listed query broke by mutations that were made in the policy since the sets were up to date; then they are again.
+// Where no principal's places are stale by them no query breaks. Until they are settled the sets are those from before.
+fn settle_judged(
+    program: &[u8],
+    listing: usize,
+    count: u8,
+    policy: &[u8],
+    atoms: &mut [u32],
+    index: &mut [u64],
+) -> bool
+    requires { ⌜ (Tracked (now policy) (now atoms) (now index)) × (count ≤ listLimit) ⌝ }
+    ensures { λ r. ⌜ Judged (now (program .entry)) listing count (now (policy .entry)) (now (atoms .entry)) (now (atoms .exit)) (now (index .exit)) r ⌝ }
+{
+    if index::stale(index) == 0 {
+        return false;
+    }
+    let before = listed::held(program, listing, count, atoms);
+    settle::settle(policy, atoms, index);
+    let after = listed::held(program, listing, count, atoms);
+    !sets::subset(before, after)
+}
+
+// The update where the sets are up to date.
+fn carry_out_settled(
+    program: &[u8],
+    at: usize,
+    listing: usize,
+    count: u8,
+    policy: &mut [u8],
+    atoms: &mut [u32],
+    index: &mut [u64],
+) -> bool
+    requires { ⌜ (Settled (now policy) (now atoms) (now index)) × (Mutable (now program) (now policy) at) × Listing (now program) (now policy) count listing ⌝ }
+    ensures { λ r. ⌜ CarriedOut (now (program .entry)) (now (policy .entry)) at listing count (now (policy .exit)) (now (atoms .exit)) (now (index .exit)) r ⌝ }
+{
+    mutations::mutate_all(program, at, policy, atoms, index);
+    settle_judged(program, listing, count, policy, atoms, index)
+}
+
 // Carries out the update whose code stands at `at`: true where one of the `count` queries listed from `listing` on held
-// before the whole update and fails after it.
+// before the whole update and fails after it. Where none is listed nothing asks for the sets, and they are settled when
+// something does.
 pub fn carry_out(
     program: &[u8],
     at: usize,
@@ -17,13 +74,15 @@ pub fn carry_out(
     count: u8,
     policy: &mut [u8],
     atoms: &mut [u32],
+    index: &mut [u64],
 ) -> bool
-    requires { ⌜ (Live (now policy) (now atoms)) × (Mutable (now program) (now policy) at) × Listing (now program) (now policy) count listing ⌝ }
-    ensures { λ r. ⌜ CarriedOut (now (program .entry)) (now (policy .entry)) at listing count (now (policy .exit)) (now (atoms .exit)) r ⌝ }
+    requires { ⌜ (Tracked (now policy) (now atoms) (now index)) × (Mutable (now program) (now policy) at) × Listing (now program) (now policy) count listing ⌝ }
+    ensures { λ r. ⌜ CarriedOut (now (program .entry)) (now (policy .entry)) at listing count (now (policy .exit)) (now (atoms .exit)) (now (index .exit)) r ⌝ }
 {
-    let before = listed::held(program, listing, count, atoms);
-    mutations::mutate_all(program, at, policy);
-    atoms::refresh(policy, atoms);
-    let after = listed::held(program, listing, count, atoms);
-    !sets::subset(before, after)
+    if count == 0 {
+        mutations::mutate_all(program, at, policy, atoms, index);
+        return false;
+    }
+    settle::settle(policy, atoms, index);
+    carry_out_settled(program, at, listing, count, policy, atoms, index)
 }

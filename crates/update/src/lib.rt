@@ -2,5 +2,7 @@
 // whether a listed query held before and fails after. Nothing here runs a program.
 pub mod atoms;
 pub mod change;
+pub mod index;
 mod listed;
 mod mutations;
+pub mod settle;

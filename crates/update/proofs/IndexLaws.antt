@@ -1,0 +1,286 @@
+-- A law for each return of index.rt, and for its loops.
+use mathlib.Core.Path.{_≡_, refl, sym, ap, _∙_}
+use Prim.Native.Nat.{ℕ, _+_, _*_, _<_, _≤_}
+use mathlib.Core.Logic.{_⊎_, inl, inr, ⊎-elim}
+use mathlib.Core.List.{List}
+use mathlib.Core.Bool.{Bool, true, false, cond, true≢false}
+use native.Mathlib.Omega.{arith}
+use native.Mathlib.Decide.{ℕ-discrete}
+use mir.Val.{Fits}
+use mir.Syntax.{w64}
+use lib.Bits.{bitOr}
+use lib.Count.{trailingZeros}
+use lib.Pow.{pow-pos}
+use lib.ListN.{length, getD, set, replicate, length-set, length-replicate, getD-replicate}
+use lib.Seq.{getD-set-same, getD-set-other}
+use Rattle.model.specs.Limits.{principalLimit, roleLimit}
+use Rattle.model.specs.Sets.{has, with, without}
+use Rattle.model.specs.Policy.{roles, principals, members, takes, HasRow, Accepted}
+use Rattle.model.proofs.Accepted.{accepted-facts}
+use Rattle.model.proofs.Below.{last-or}
+use Rattle.model.proofs.Rows.{accepted-row}
+use Rattle.model.proofs.Sets.{has-zero, has-or-l, has-or-r, or-has, has-below, has-with-same, has-with, with-has, has-without, without-has}
+use Rattle.model.proofs.Truth.{true-or-false}
+use Rattle.shared.proofs.SetLaws.{next-without}
+use Rattle.update.specs.Index.{holdersAt, staleAt, indexWords, SetInside, Entered, Transposed, Indexed, Loaded, placed, Turned}
+
+-- not in a set, and in none
+pub not-in : (a j : ℕ) → (has a j ≡ true → ⊥) → has a j ≡ false
+not-in a j n = ⊎-elim (λ h. absurd (n h)) (λ h. h) (true-or-false (has a j))
+
+pub none-in : {A : Type 0} (a j : ℕ) → has a j ≡ true → has a j ≡ false → A
+none-in a j h n = absurd (true≢false (sym h ∙ n))
+
+-- a set without its lowest number is less
+pub fewer : (a j next : ℕ) → 0 < a → j ≡ trailingZeros 64 a → has a j ≡ true → next ≡ without a (trailingZeros 64 a) → next < a
+fewer a j next l e h f = rw (f, ← e, h) (omega (arith, pow-pos j))
+
+-- i is put into the words of `set` that are not in `rest`
+pub record Entering (from set rest i : ℕ) (w u : List ℕ) : Type 0 where
+  pub long : length u ≡ length w
+  pub in-rest : (j : ℕ) → has rest j ≡ true → has set j ≡ true
+  pub entered : (j : ℕ) → has set j ≡ true → has rest j ≡ false → getD u (from + j) 0 ≡ with (getD w (from + j) 0) i
+  pub waiting : (j : ℕ) → has rest j ≡ true → getD u (from + j) 0 ≡ getD w (from + j) 0
+  pub others : (k : ℕ) → ((j : ℕ) → has set j ≡ true → k ≡ from + j → ⊥) → getD u k 0 ≡ getD w k 0
+
+pub entering-start : (from set i : ℕ) (w : List ℕ) → Entering from set set i w w
+entering-start from set i w =
+    record { long = refl; in-rest = λ j h. h; entered = λ j h n. none-in set j h n; waiting = λ j h. refl; others = λ k n. refl }
+
+module _ (from all rest i : ℕ) (w u : List ℕ) (inside : SetInside from all) (long : length w ≡ indexWords) (h : Entering from all rest i w u) where
+  pub entering-inside : (j : ℕ) → has rest j ≡ true → from + j < length u
+  unfolding SetInside
+  entering-inside j m = omega (arith, h .long, long, inside j (h .in-rest j m))
+
+  pub entering-fits : (j : ℕ) → has rest j ≡ true → Fits w64 (from + j)
+  unfolding SetInside
+  entering-fits j m = record { fits = omega (arith, inside j (h .in-rest j m)) }
+
+  pub entering-wide : (j : ℕ) → has rest j ≡ true → Fits w64 ((from + j) * 8)
+  unfolding SetInside
+  entering-wide j m = record { fits = omega (arith, inside j (h .in-rest j m)) }
+
+  pub entering-more : (j k v next : ℕ) → j ≡ trailingZeros 64 rest → has rest j ≡ true → k ≡ from + j → v ≡ with (getD u k 0) i → next ≡ without rest (trailingZeros 64 rest) → Entering from all next i w (set u k v)
+  entering-more j k v next ej m ek ev en = rw (ev, ek) (record {
+    long = length-set u (from + j) _ ∙ h .long;
+    in-rest = λ l p. h .in-rest l (out l p .0);
+    entered = λ l p n. go l p n (ℕ-discrete l j);
+    waiting = λ l p. getD-set-other u (from + j) (from + l) _ 0 (λ e. out l p .1 (omega arith)) ∙ h .waiting l (out l p .0);
+    others = λ l n. getD-set-other u (from + j) l _ 0 (λ e. n j (h .in-rest j m) e) ∙ h .others l n;
+  })
+    where
+      is : next ≡ without rest j
+      is = next-without rest j next ej en
+
+      out : (l : ℕ) → has next l ≡ true → (has rest l ≡ true) × (l ≡ j → ⊥)
+      out l p = without-has rest j l (rw is at p)
+
+      go : (l : ℕ) → has all l ≡ true → has next l ≡ false → Dec (l ≡ j) → getD (set u (from + j) (with (getD u (from + j) 0) i)) (from + l) 0 ≡ with (getD w (from + l) 0) i
+      go l p n (yes e) = rw e (getD-set-same u (from + j) _ 0 (entering-inside j m) ∙ ap (λ (x : ℕ). with x i) (h .waiting j m))
+      go l p n (no d) =
+          getD-set-other u (from + j) (from + l) _ 0 (λ e. d (omega arith))
+          ∙ h .entered l p (not-in rest l (λ q. none-in next l (rw is (has-without rest j l q d)) n))
+
+  pub entering-done : rest ≤ 0 → Entered from all i w u
+  entering-done z =
+      let e : rest ≡ 0 = omega arith in
+      record { long = h .long; entered = λ j p. h .entered j p (rw e (has-zero j)); others = h .others }
+
+  pub entering-long : length u ≡ length w
+  entering-long = h .long
+
+pub ruleset enterings = (fewer, entering-start, entering-inside, entering-fits, entering-wide, entering-more, entering-done, entering-long)
+
+-- a set with or without a number
+module _ (a i : ℕ) where
+  pub placed-same : (b : Bool) → has (placed b a i) i ≡ b
+  unfolding placed
+  placed-same true = has-with-same a i
+  placed-same false = not-in (without a i) i (λ h. without-has a i i h .1 refl)
+
+  pub placed-other : (b : Bool) (j : ℕ) → (j ≡ i → ⊥) → has (placed b a i) j ≡ has a j
+  unfolding placed
+  placed-other b j n = ⊎-elim (λ y. stays b y ∙ sym y) (λ f. leaves b f ∙ sym f) (true-or-false (has a j))
+    where
+      stays : (b : Bool) → has a j ≡ true → has (placed b a i) j ≡ true
+      stays true y = has-with a i j y
+      stays false y = has-without a i j y n
+
+      leaves : (b : Bool) → has a j ≡ false → has (placed b a i) j ≡ false
+      leaves true f = not-in (with a i) j (λ h. ⊎-elim n (λ y. none-in a j y f) (with-has a i j h))
+      leaves false f = not-in (without a i) j (λ h. none-in a j (without-has a i j h .0) f)
+
+-- two truths are the same, or not
+pub same-or-not : (a b : Bool) → (a ≡ b) ⊎ (a ≡ b → ⊥)
+same-or-not true true = inl refl
+same-or-not true false = inr true≢false
+same-or-not false true = inr (λ e. true≢false (sym e))
+same-or-not false false = inl refl
+
+-- the words of one more role
+module _ (f : ℕ → ℕ) (from width n : ℕ) (w u : List ℕ) (h : Transposed f from width n w) where
+  transposed-more : Entered from (f n) n w u → Transposed f from width (n + 1) u
+  unfolding placed
+  transposed-more g = record { same = λ j i l b. same j i l (true-or-false (has (f n) j)) (last-or n i (omega arith)); below = λ j i l m. below j i l m (true-or-false (has (f n) j)) (ℕ-discrete i n) }
+    where
+      kept : (j : ℕ) → has (f n) j ≡ false → getD u (from + j) 0 ≡ getD w (from + j) 0
+      kept j e = g .others (from + j) (λ l m q. let k : l ≡ j = omega arith in none-in (f n) j (rw k at m) e)
+
+      same : (j i : ℕ) → j < width → (has (f n) j ≡ true) ⊎ (has (f n) j ≡ false) → (i ≡ n) ⊎ (i < n) → has (getD u (from + j) 0) i ≡ has (f i) j
+      same j i l (inl y) (inl e) = rw (e, g .entered j y) (placed-same (getD w (from + j) 0) n true ∙ sym y)
+      same j i l (inl y) (inr b) = rw (g .entered j y) (placed-other (getD w (from + j) 0) n true i (λ q. omega arith) ∙ h .same j i l b)
+      same j i l (inr o) (inl e) = rw (e, kept j o) (not-in (getD w (from + j) 0) n (λ q. let k = h .below j n l q in omega arith) ∙ sym o)
+      same j i l (inr o) (inr b) = rw (kept j o) (h .same j i l b)
+
+      below : (j i : ℕ) → j < width → has (getD u (from + j) 0) i ≡ true → (has (f n) j ≡ true) ⊎ (has (f n) j ≡ false) → Dec (i ≡ n) → i < n + 1
+      below j i l m o (yes e) = omega arith
+      below j i l m (inl y) (no d) = let k = h .below j i l (sym (placed-other (getD w (from + j) 0) n true i d) ∙ rw (g .entered j y) at m) in omega arith
+      below j i l m (inr o) (no d) = let k = h .below j i l (rw (kept j o) at m) in omega arith
+
+  -- other words may change
+  pub transposed-kept : (g : ℕ → ℕ) → ((i j : ℕ) → i < n → has (g i) j ≡ has (f i) j) → ((j : ℕ) → j < width → getD u (from + j) 0 ≡ getD w (from + j) 0) → Transposed g from width n u
+  transposed-kept g alike kept = record { same = λ j i l b. rw (kept j l) (h .same j i l b ∙ sym (alike i j b)); below = λ j i l m. h .below j i l (rw (kept j l) at m) }
+
+  -- the word of x changes in r, and so does the set of r in x
+  pub transposed-turned : (g : ℕ → ℕ) (r x more : ℕ) (present : Bool) → r < n → x < width → from + width ≤ staleAt → ((i : ℕ) → i < n → (i ≡ r → ⊥) → g i ≡ f i) → g r ≡ placed present (f r) x
+      → Turned (from + x) r present more w u → Transposed g from width n u
+  transposed-turned g r x more present r-there x-there inside others own z =
+      record { same = λ j i l b. same j i l b (ℕ-discrete j x) (ℕ-discrete i r); below = λ j i l m. below j i l m (ℕ-discrete j x) (ℕ-discrete i r) }
+    where
+      old : ℕ
+      old = getD w (from + x) 0
+
+      kept : (j : ℕ) → j < width → (j ≡ x → ⊥) → getD u (from + j) 0 ≡ getD w (from + j) 0
+      kept j l d = z .others (from + j) (omega arith) (λ q. d (omega arith))
+
+      same : (j i : ℕ) → j < width → i < n → Dec (j ≡ x) → Dec (i ≡ r) → has (getD u (from + j) 0) i ≡ has (g i) j
+      same j i l b (yes e) (yes q) = rw (e, q, z .word, own) (placed-same (getD w (from + x) 0) r present ∙ sym (placed-same (f r) x present))
+      same j i l b (yes e) (no d) = rw (e, z .word, others i b d) (placed-other (getD w (from + x) 0) r present i d ∙ h .same x i x-there b)
+      same j i l b (no d) (yes q) = rw (q, kept j l d, own) (h .same j r l r-there ∙ sym (placed-other (f r) x present j d))
+      same j i l b (no d) (no c) = rw (kept j l d, others i b c) (h .same j i l b)
+
+      below : (j i : ℕ) → j < width → has (getD u (from + j) 0) i ≡ true → Dec (j ≡ x) → Dec (i ≡ r) → i < n
+      below j i l m d (yes q) = rw q r-there
+      below j i l m (yes e) (no c) = h .below x i x-there (sym (placed-other (getD w (from + x) 0) r present i c) ∙ rw (e, z .word) at m)
+      below j i l m (no d) (no c) = h .below j i l (rw (kept j l d) at m)
+
+-- how many roles there are: b as it is read, c the same, wider
+pub count-is : (s : List ℕ) (b c : ℕ) → c ≡ b → b ≡ roles s → c ≡ roles s
+count-is s b c e f = e ∙ f
+
+-- a row of an accepted policy
+module _ (s : List ℕ) (ok : Accepted s) (c i : ℕ) (e : c ≡ roles s) (l : i < c) where
+  i-there : i < roles s
+  i-there = omega arith
+
+  pub row-there : HasRow s i
+  row-there = accepted-row s ok (roles s) i refl i-there
+
+  taken-small : (j : ℕ) → has (takes s i) j ≡ true → j < roleLimit
+  taken-small j m = omega (arith, has-below (roles s) (takes s i) j (accepted-facts s ok .row i i-there .takes-below) m, accepted-facts s ok .roles-fit)
+
+  member-small : (j : ℕ) → has (members s i) j ≡ true → j < principalLimit
+  member-small j m = omega (arith, has-below (principals s) (members s i) j (accepted-facts s ok .row i i-there .members-below) m, accepted-facts s ok .principals-fit)
+
+  pub takes-inside : (v : ℕ) → v ≡ takes s i → SetInside 0 v
+  unfolding SetInside
+  takes-inside v q j m = omega (arith, taken-small j (rw q at m))
+
+  pub members-inside : (v : ℕ) → v ≡ members s i → SetInside holdersAt v
+  unfolding SetInside
+  members-inside v q j m = omega (arith, member-small j (rw q at m))
+
+  pub role-small : i < roleLimit
+  role-small = omega (arith, accepted-facts s ok .roles-fit)
+
+module _ (s w : List ℕ) (ok : Accepted s) where
+  pub loaded-start : w ≡ replicate indexWords 0 → Loaded s 0 w
+  loaded-start e = record {
+    indexed = record {
+      long = ap length e ∙ length-replicate {A = ℕ} indexWords 0;
+      takers = none (takes s) 0 roleLimit (omega arith);
+      holders = none (members s) holdersAt principalLimit (omega arith);
+    };
+    none-stale = zero-at staleAt (omega arith);
+  }
+    where
+      zero-at : (k : ℕ) → k < indexWords → getD w k 0 ≡ 0
+      zero-at k l = rw e (getD-replicate indexWords k 0 0 l)
+
+      none : (f : ℕ → ℕ) (from width : ℕ) → from + width < indexWords → Transposed f from width 0 w
+      none f from width l = record {
+        same = λ j i b m. absurd (omega arith);
+        below = λ j i b m. absurd (true≢false (sym (rw (zero-at (from + j) (omega arith)) at m) ∙ has-zero i));
+      }
+
+  module _ (n : ℕ) (h : Loaded s n w) where
+    pub loaded-long : length w ≡ indexWords
+    loaded-long = h .indexed .long
+
+    pub loaded-more : (u v : List ℕ) (c t m : ℕ) → c ≡ roles s → n < c → t ≡ takes s n → m ≡ members s n → Entered 0 t n w u → Entered holdersAt m n u v → Loaded s (n + 1) v
+    loaded-more u v c t m ec l et em a b = record {
+      indexed = record {
+        long = g .long ∙ f .long ∙ h .indexed .long;
+        takers = transposed-kept (takes s) 0 roleLimit (n + 1) u v (transposed-more (takes s) 0 roleLimit n w u (h .indexed .takers) f) (takes s) (λ i j k. refl)
+            (λ j k. g .others (0 + j) (λ x p q. omega arith));
+        holders = transposed-more (members s) holdersAt principalLimit n u v
+            (transposed-kept (members s) holdersAt principalLimit n w u (h .indexed .holders) (members s) (λ i j k. refl) (λ j k. f .others (holdersAt + j) (λ y p q. omega (arith, taken-small s ok c n ec l y p)))) g;
+      };
+      none-stale = g .others staleAt (λ y p q. omega (arith, member-small s ok c n ec l y p)) ∙ f .others staleAt (λ y p q. omega (arith, taken-small s ok c n ec l y p)) ∙ h .none-stale;
+    }
+      where
+        f : Entered 0 (takes s n) n w u
+        f = rw et at a
+
+        g : Entered holdersAt (members s n) n u v
+        g = rw em at b
+
+    pub loaded-done : (c : ℕ) → c ≡ roles s → n ≤ c → c ≤ n → Loaded s (roles s) w
+    loaded-done c e l k = let q : roles s ≡ n = omega arith in rw q h
+
+pub ruleset loadings = (count-is, row-there, takes-inside, members-inside, role-small, loaded-start, loaded-long, loaded-more, loaded-done)
+
+pub placed-with : (present : Bool) (a i v : ℕ) → present ≡ true → v ≡ with a i → v ≡ placed present a i
+unfolding placed
+placed-with present a i v e f = rw e f
+
+pub placed-without : (present : Bool) (a i v : ℕ) → present ≡ false → v ≡ without a i → v ≡ placed present a i
+unfolding placed
+placed-without present a i v e f = rw e f
+
+pub ruleset placings = (placed-with, placed-without)
+
+-- a word that is changed, or not
+module _ (k i : ℕ) (present : Bool) (more : ℕ) (w : List ℕ) (v : ℕ) (e : v ≡ placed present (getD w k 0) i) where
+  pub turned-not : v ≡ getD w k 0 → Turned k i present more w w
+  turned-not q = record {
+    long = refl;
+    word = sym q ∙ e;
+    others = λ m l n. refl;
+    still-stale = λ p h. h;
+    now-stale = λ p h n. absurd (n (ap (λ (x : ℕ). has x i) (sym q ∙ e) ∙ placed-same (getD w k 0) i present));
+    only-stale = λ p h n. none-in (getD w staleAt 0) p h n;
+  }
+
+  module _ (long : length w ≡ indexWords) (l : k < staleAt) where
+    pub turned-inside : staleAt < length (set w k v)
+    turned-inside = rw length-set (omega arith)
+
+    pub turned-so : (x : ℕ) → x ≡ getD (set w k v) staleAt 0 → Turned k i present more w (set (set w k v) staleAt (bitOr x more))
+    turned-so x ex = record {
+      long = length-set (set w k v) staleAt _ ∙ length-set w k v;
+      word = getD-set-other (set w k v) staleAt k _ 0 (λ q. omega arith) ∙ getD-set-same w k v 0 (omega arith) ∙ e;
+      others = λ m b n. getD-set-other (set w k v) staleAt m _ 0 (λ q. omega arith) ∙ getD-set-other w k m v 0 n;
+      still-stale = λ p h. rw now (has-or-l (getD w staleAt 0) more p h);
+      now-stale = λ p h n. rw now (has-or-r (getD w staleAt 0) more p h);
+      only-stale = λ p h n. ⊎-elim (λ y. none-in (getD w staleAt 0) p y n) (λ y. y) (or-has (getD w staleAt 0) more p (rw now at h));
+    }
+      where
+        now : getD (set (set w k v) staleAt (bitOr x more)) staleAt 0 ≡ bitOr (getD w staleAt 0) more
+        now = getD-set-same (set w k v) staleAt _ 0 turned-inside ∙ ap (λ (y : ℕ). bitOr y more) (ex ∙ getD-set-other w k staleAt v 0 (λ q. omega arith))
+
+pub ruleset turnings = (turned-not, turned-inside, turned-so)
+
+-- the word is found by the number that it is kept for
+pub turned-at : (k k₁ i i₁ : ℕ) (present : Bool) (more more₁ : ℕ) (w u : List ℕ) → k ≡ k₁ → i ≡ i₁ → more ≡ more₁ → Turned k i present more w u → Turned k₁ i₁ present more₁ w u
+turned-at k k₁ i i₁ present more more₁ w u e f g h = rw (e, f, g) at h

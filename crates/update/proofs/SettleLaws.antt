@@ -1,0 +1,231 @@
+-- A law for each return of settle.rt, and for its loops: one principal's places are right once they are made anew, and when no
+-- principal is stale the sets are those of the policy.
+use mathlib.Core.Path.{_≡_, refl, sym, ap, _∙_}
+use Prim.Native.Nat.{ℕ, _+_, _-_, _^_, _<_, _≤_}
+use mathlib.Core.Logic.{_⊎_, inl, inr, ⊎-elim}
+use mathlib.Core.List.{List}
+use mathlib.Core.Bool.{Bool, true, false, cond, true≢false}
+use native.Mathlib.Omega.{arith}
+use native.Mathlib.Decide.{decLt, ℕ-discrete}
+use native.Mathlib.Nat.{lt-of-le-of-lt}
+use mir.Val.{Fits}
+use mir.Syntax.{w32}
+use lib.Bits.{bitOr, bitXor, and-le-l, and-le-r, xor-add-and, xor-zero-r}
+use lib.Count.{trailingZeros}
+use lib.ListN.{length, getD, set, length-set}
+use lib.Seq.{getD-set-same, getD-set-other}
+use Rattle.model.specs.Limits.{principalLimit, roleLimit}
+use Rattle.model.specs.Sets.{has, with, without}
+use Rattle.model.specs.Policy.{reading, trust, roles, members, takes, Accepted}
+use Rattle.model.specs.Syntax.{Fixed, of, everyone, Atom, role, fixed, atomByte}
+use Rattle.model.specs.Fits.{AtomFits}
+use Rattle.model.specs.Order.{fixedSet}
+use Rattle.model.specs.Atoms.{atomSet}
+use Rattle.model.specs.Meaning.{meaning}
+use Rattle.model.proofs.Accepted.{accepted-facts}
+use Rattle.model.proofs.Below.{last-or}
+use Rattle.model.proofs.Least.{meaning-closed, meaning-least}
+use Rattle.model.proofs.Sets.{has-zero, has-or-l, has-or-r, or-has, has-below, has-with-same, has-with, with-has, with-below, has-without, without-has, without-le, xor-has, subset-le, same-sets}
+use Rattle.model.proofs.Truth.{true-or-false, same-truth}
+use Rattle.shared.proofs.SetLaws.{next-without}
+use Rattle.update.specs.Live.{atomWords, Live, FixedLive}
+use Rattle.update.specs.Index.{holdersAt, staleAt, indexWords, Indexed, placed, Fresh, FewStale, Tracked, Settled, Reaching, Spread}
+use Rattle.update.proofs.IndexLaws.{not-in, none-in, fewer, count-is, placed-same, placed-other, transposed-kept}
+
+-- how far a search upwards has come: with the roles that are done, all that take them in are seen
+pub record Climbing (w : List ℕ) (start seen done : ℕ) : Type 0 where
+  pub starts : (i : ℕ) → has start i ≡ true → has seen i ≡ true
+  pub done-seen : (i : ℕ) → has done i ≡ true → has seen i ≡ true
+  pub done-closed : (j i : ℕ) → has done j ≡ true → has (getD w j 0) i ≡ true → has seen i ≡ true
+  pub least : (H : ℕ → Bool) → ((i : ℕ) → has start i ≡ true → H i ≡ true) → ((j i : ℕ) → j < roleLimit → H j ≡ true → has (getD w j 0) i ≡ true → H i ≡ true)
+      → (i : ℕ) → has seen i ≡ true → H i ≡ true
+
+pub climbing-start : (w : List ℕ) (start : ℕ) → Climbing w start start 0
+climbing-start w start = record {
+  starts = λ i h. h;
+  done-seen = λ i h. none-in 0 i h (has-zero i);
+  done-closed = λ j i h m. none-in 0 j h (has-zero j);
+  least = λ H f g i h. f i h;
+}
+
+pub none-done : (start : ℕ) → start ≡ bitXor start 0
+none-done start = sym (xor-zero-r start)
+
+module _ (w : List ℕ) (start seen done left : ℕ) (e : left ≡ bitXor seen done) (h : Climbing w start seen done) where
+  module _ (j : ℕ) (m : has left j ≡ true) (small : j < roleLimit) where
+    here : (has seen j ≡ true) × (has done j ≡ false)
+    here = xor-has seen done j (h .done-seen j) (rw e at m)
+
+    pub climbing-more : (next : ℕ) → next ≡ with done j → Climbing w start (bitOr seen (getD w j 0)) next
+    climbing-more next n = rw n (record {
+      starts = λ i p. has-or-l seen (getD w j 0) i (h .starts i p);
+      done-seen = λ i p. has-or-l seen (getD w j 0) i (⊎-elim (λ q. rw q (here .0)) (h .done-seen i) (with-has done j i p));
+      done-closed = λ k i p q. ⊎-elim
+          (λ f. has-or-r seen (getD w j 0) i (rw f at q))
+          (λ f. has-or-l seen (getD w j 0) i (h .done-closed k i f q)) (with-has done j k p);
+      least = λ H f g i p. ⊎-elim (h .least H f g i) (λ q. g j i small (h .least H f g j (here .0)) q) (or-has seen (getD w j 0) i p);
+    })
+
+    pub climbing-less : (next : ℕ) → next ≡ with done j → next < 2 ^ 64 → 2 ^ 64 - next < 2 ^ 64 - done
+    climbing-less next n l = omega (arith, grows)
+      where
+        grows : done < next
+        grows = go (decLt done next)
+          where
+            go : Dec (done < next) → done < next
+            go (yes k) = k
+            go (no k) =
+                let q : next ≡ done = omega (arith, subset-le done next (λ i p. rw n (has-with done j i p))) in
+                none-in done j (rw (sym n ∙ q) at (has-with-same done j)) (here .1)
+
+  pub climbing-done : left ≤ 0 → Reaching w start seen
+  climbing-done z =
+      let n : bitXor seen done ≡ 0 = omega arith in
+      let q : seen ≡ done = omega (arith, xor-add-and seen done, and-le-l seen done, and-le-r seen done) in
+      record { starts = h .starts; closed = λ j i p m. h .done-closed j i (rw q at p) m; least = h .least }
+
+pub ruleset climbings = (climbing-start, none-done, climbing-more, climbing-less, climbing-done)
+
+-- one principal in or out of the sets, role by role
+module _ (among p : ℕ) (w : List ℕ) where
+  pub spread-start : Spread 0 among p w w
+  spread-start = record { long = refl; inside = λ r l. absurd (omega arith); outside = λ r l. refl }
+
+  module _ (n : ℕ) (u : List ℕ) (h : Spread n among p w u) where
+    pub spread-more : (b : Bool) (old v : ℕ) → n < length u → b ≡ has among n → old ≡ getD u n 0 → v ≡ placed b old p → Spread (n + 1) among p w (set u n v)
+    spread-more b old v l eb eo ev = record {
+      long = length-set u n v ∙ h .long;
+      inside = λ r k. ⊎-elim
+          (λ q. rw q (getD-set-same u n v 0 l ∙ ev ∙ rw (eb, eo, h .outside n (omega arith)) refl))
+          (λ q. getD-set-other u n r v 0 (λ z. omega arith) ∙ h .inside r q) (last-or n r (omega arith));
+      outside = λ r k. getD-set-other u n r v 0 (λ z. omega arith) ∙ h .outside r (omega arith);
+    }
+
+    pub spread-done : (count : ℕ) → n ≤ count → count ≤ n → Spread count among p w u
+    spread-done count l k = let e : count ≡ n = omega arith in rw e h
+
+    pub spread-long : length u ≡ length w
+    spread-long = h .long
+
+    pub spread-inside : (count k : ℕ) → length w ≡ k → n < count → count ≤ roleLimit → roleLimit ≤ k → n < length u
+    spread-inside count k e l few long = omega (arith, h .long)
+
+pub placed-fits : (b : Bool) (a i v : ℕ) → v ≡ placed b a i → a < 2 ^ 32 → i < principalLimit → Fits w32 v
+unfolding placed
+placed-fits true a i v e l k = record { fits = rw e (with-below 32 a i l k) }
+placed-fits false a i v e l k = record { fits = rw e (lt-of-le-of-lt (without-le a i) l) }
+
+pub ruleset spreads = (spread-start, spread-more, spread-done, spread-long, spread-inside, placed-fits)
+
+-- the roles from which one that has the principal p as a member is reached are those that mean p
+module _ (s w : List ℕ) (ok : Accepted s) (h : Indexed s (roles s) w) (p among : ℕ) (l : p < principalLimit) (g : Reaching w (getD w (holdersAt + p) 0) among) where
+  few : roles s ≤ roleLimit
+  few = accepted-facts s ok .roles-fit
+
+  among-means : (r : ℕ) → has among r ≡ true → has (meaning s r) p ≡ true
+  among-means = g .least (λ r. has (meaning s r) p)
+      (λ i m. let b = h .holders .below p i l m in meaning-closed s .own i p b (sym (h .holders .same p i l b) ∙ m))
+      (λ j i k q m.
+      let z : 0 + j ≡ j = omega arith in
+      let n : has (getD w (0 + j) 0) i ≡ true = rw z m in
+      let b = h .takers .below j i k n in
+      let t : has (takes s i) j ≡ true = sym (h .takers .same j i k b) ∙ n in
+      meaning-closed s .taken i j p b (has-below (roles s) (takes s i) j (accepted-facts s ok .row i b .takes-below) t) t q)
+
+  means-among : (r : ℕ) → has (meaning s r) p ≡ true → has among r ≡ true
+  means-among r m = meaning-least s (λ r q. q ≡ p → has among r ≡ true) (record {
+    own = λ i q b o e. g .starts i (h .holders .same p i l b ∙ rw e at o);
+    taken = λ i j q b c t f e.
+        let z : 0 + j ≡ j = omega arith in
+        let n : has (getD w (0 + j) 0) i ≡ true = h .takers .same j i (omega (arith, few)) b ∙ t in
+        g .closed j i (f e) (rw z at n);
+  }) r p m refl
+
+  pub among-is : (r : ℕ) → has among r ≡ has (meaning s r) p
+  among-is r = same-truth (has among r) (has (meaning s r) p) (among-means r) (means-among r)
+
+-- the sets are right for all but the stale principals that are left
+pub record Settling (s atoms w : List ℕ) (stale : ℕ) : Type 0 where
+  pub fixed-live : FixedLive s atoms
+  pub indexed : Indexed s (roles s) w
+  pub few-stale : FewStale stale
+  pub fresh : Fresh s atoms stale
+
+-- viewers, trusters and everyone stand behind the roles
+behind : (R : ℕ) → R ≤ roleLimit → (f : Fixed) → R ≤ atomByte (fixed f)
+behind R l (of reading j) = omega arith
+behind R l (of trust j) = omega arith
+behind R l everyone = omega arith
+
+settled-from : (s atoms w : List ℕ) → FixedLive s atoms → Indexed s (roles s) w → getD w staleAt 0 ≡ 0 → Fresh s atoms 0 → Settled s atoms w
+unfolding Fresh FewStale atomSet
+settled-from s atoms w f i z h = record {
+  tracked = record { fixed-live = f; indexed = i; few-stale = λ p m. none-in 0 p (rw z at m) (has-zero p); fresh = rw z h };
+  live = record { accepted = f .accepted; long = f .long; sets = sets };
+}
+  where
+    sets : (a : Atom) → AtomFits (roles s) a → getD atoms (atomByte a) 0 ≡ atomSet s a
+    sets (role j) l = same-sets _ _ (λ p m. sym (h j p l (has-zero p)) ∙ m) (λ p m. h j p l (has-zero p) ∙ m)
+    sets (fixed a) l = f .sets a l
+
+module _ (s atoms w : List ℕ) where
+  pub tracked-long : Tracked s atoms w → length w ≡ indexWords
+  tracked-long h = h .indexed .long
+
+  pub settled-already : Tracked s atoms w → (x : ℕ) → x ≡ getD w staleAt 0 → x ≡ 0 → Settled s atoms w
+  settled-already h x e z = settled-from s atoms w (h .fixed-live) (h .indexed) (sym e ∙ z) (rw (sym e ∙ z) at (h .fresh))
+
+  pub settling-start : Tracked s atoms w → (x : ℕ) → x ≡ getD w staleAt 0 → Settling s atoms w x
+  settling-start h x e = rw e record { fixed-live = h .fixed-live; indexed = h .indexed; few-stale = h .few-stale; fresh = h .fresh }
+
+  module _ (stale : ℕ) (h : Settling s atoms w stale) where
+    pub settling-few : (p : ℕ) → has stale p ≡ true → p < principalLimit
+    unfolding FewStale
+    settling-few p m = h .few-stale p m
+
+    pub settling-roles : (c : ℕ) → c ≡ roles s → c ≤ roleLimit
+    settling-roles c e = omega (arith, accepted-facts s (h .fixed-live .accepted) .roles-fit)
+
+    pub settling-long : length w ≡ indexWords
+    settling-long = h .indexed .long
+
+    pub settling-atoms : length atoms ≡ atomWords
+    settling-atoms = h .fixed-live .long
+
+    pub settling-more : (count p start among next : ℕ) (atoms₁ : List ℕ) → count ≡ roles s → p ≡ trailingZeros 64 stale → has stale p ≡ true → start ≡ getD w (holdersAt + p) 0
+        → Reaching w start among → Spread count among p atoms atoms₁ → next ≡ without stale (trailingZeros 64 stale) → Settling s atoms₁ w next
+    unfolding Fresh FewStale
+    settling-more count p start among next atoms₁ ec ep m es g d en = record {
+      fixed-live = record {
+        accepted = ok;
+        long = d .long ∙ h .fixed-live .long;
+        sets = λ f l. d .outside (atomByte (fixed f)) (omega (arith, behind (roles s) (accepted-facts s ok .roles-fit) f)) ∙ h .fixed-live .sets f l;
+      };
+      indexed = h .indexed;
+      few-stale = λ q n. h .few-stale q (without-has stale p q (rw is at n) .0);
+      fresh = λ r q l n. go r q l n (ℕ-discrete q p);
+    }
+      where
+        ok : Accepted s
+        ok = h .fixed-live .accepted
+
+        is : next ≡ without stale p
+        is = next-without stale p next ep en
+
+        go : (r q : ℕ) → r < roles s → has next q ≡ false → Dec (q ≡ p) → has (getD atoms₁ r 0) q ≡ has (meaning s r) q
+        go r q l n (yes e) =
+            rw (e, d .inside r (omega arith)) (placed-same (getD atoms r 0) p (has among r) ∙ among-is s w ok (h .indexed) p among (h .few-stale p m) (rw es at g) r)
+        go r q l n (no c) =
+            rw (d .inside r (omega arith)) (placed-other (getD atoms r 0) p (has among r) q c ∙ h .fresh r q l (not-in stale q (λ y. none-in next q (rw is (has-without stale p q y c)) n)))
+
+    pub settling-done : stale ≤ 0 → (w₁ : List ℕ) → w₁ ≡ set w staleAt 0 → Settled s atoms w₁
+    settling-done z w₁ e =
+        let n : stale ≡ 0 = omega arith in
+        let kept : (k : ℕ) → k < staleAt → getD w₁ k 0 ≡ getD w k 0 = λ k l. rw e (getD-set-other w staleAt k 0 0 (λ q. omega arith)) in
+        settled-from s atoms w₁ (h .fixed-live) (record {
+          long = rw e (length-set w staleAt 0 ∙ h .indexed .long);
+          takers = transposed-kept (takes s) 0 roleLimit (roles s) w w₁ (h .indexed .takers) (takes s) (λ i j k. refl) (λ j l. kept (0 + j) (omega arith));
+          holders = transposed-kept (members s) holdersAt principalLimit (roles s) w w₁ (h .indexed .holders) (members s) (λ i j k. refl) (λ j l. kept (holdersAt + j) (omega arith));
+        }) (rw e (getD-set-same w staleAt 0 0 (omega (arith, h .indexed .long)))) (rw n at (h .fresh))
+
+pub ruleset settlings = (fewer, count-is, settled-already, settling-start, settling-few, settling-roles, settling-long, settling-atoms, tracked-long, settling-more, settling-done)

@@ -1,0 +1,71 @@
+// Brings the sets of the roles up to date, for the principals alone whose places are stale. Nothing else of a set can have
+// changed, so an update costs what it changes and not what the policy holds.
+ghost use mathlib.Core.Path.{_≡_};
+ghost use Prim.Native.Nat.{_<_, _≤_};
+ghost use lib.ListN.{length};
+ghost use Rattle.model.specs.Limits.{principalLimit, roleLimit};
+ghost use Rattle.update.specs.Live.{atomWords};
+ghost use Rattle.update.specs.Index.{indexWords, Tracked, Settled, Reaching, Spread};
+use super::atoms;
+use super::index;
+use policy::rows;
+use shared::bytes;
+use shared::sets;
+
+// The roles in `start`, those that take one of them in, those that take in one of these, and so on: each is looked at once.
+fn reaching(index: &[u64], start: u64) -> u64
+    requires { ⌜ length (now index) ≡ indexWords ⌝ }
+    ensures { λ r. ⌜ Reaching (now (index .entry)) start r ⌝ }
+{
+    let mut seen = start;
+    let mut done = 0;
+    let mut left = seen;
+    while 0 < left {
+        let j = sets::lowest(left);
+        seen = seen | index[j as usize];
+        done = sets::with(done, j);
+        left = seen ^ done;
+    }
+    seen
+}
+
+// Puts the principal p into the sets of the roles that are among some, and takes it out of all others.
+fn spread(atoms: &mut [u32], count: usize, among: u64, p: u64)
+    requires { ⌜ (length (now atoms) ≡ atomWords) × (count ≤ roleLimit) × (p < principalLimit) ⌝ }
+    ensures { λ _. ⌜ Spread count among p (now (atoms .entry)) (now (atoms .exit)) ⌝ }
+{
+    let mut i = 0;
+    while i < count {
+        let here = sets::contains(among, i as u64);
+        let old = atoms::set_of(atoms, i) as u64;
+        atoms[i] = index::placed(here, old, p) as u32;
+        i += 1;
+    }
+}
+
+// One principal at a time.
+fn settle_all(policy: &[u8], atoms: &mut [u32], index: &mut [u64])
+    requires { ⌜ Tracked (now policy) (now atoms) (now index) ⌝ }
+    ensures { λ _. ⌜ Settled (now (policy .entry)) (now (atoms .exit)) (now (index .exit)) ⌝ }
+{
+    let count = bytes::wide(rows::roles_of(policy)) as usize;
+    let mut stale = index::stale(index);
+    while 0 < stale {
+        let p = sets::lowest(stale);
+        let among = reaching(index, index::holders(index, p));
+        spread(atoms, count, among, p);
+        stale = sets::without_lowest(stale);
+    }
+    index::set_fresh(index);
+}
+
+// Mostly no place is stale.
+pub fn settle(policy: &[u8], atoms: &mut [u32], index: &mut [u64])
+    requires { ⌜ Tracked (now policy) (now atoms) (now index) ⌝ }
+    ensures { λ _. ⌜ Settled (now (policy .entry)) (now (atoms .exit)) (now (index .exit)) ⌝ }
+{
+    if index::stale(index) == 0 {
+        return;
+    }
+    settle_all(policy, atoms, index);
+}
