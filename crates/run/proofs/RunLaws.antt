@@ -22,7 +22,8 @@ use Rattle.model.specs.Machine.{answerOf}
 use Rattle.model.proofs.Accepted.{accepted-facts}
 use Rattle.model.proofs.FlowParts.{accepted-program}
 use Rattle.compile.specs.Represents.{Blank, Compiles}
-use Rattle.update.specs.Live.{atomWords, Live}
+use Rattle.update.specs.Live.{atomWords}
+use Rattle.update.specs.Index.{indexWords, Tracked}
 use Rattle.flow.specs.declared.verdict.Verdict.{Verdict}
 use Rattle.flow.specs.declared.verdict.Verdict.the-variants.{Fine, Refused}
 use Rattle.flow.specs.Verdict.{verdictOf}
@@ -83,7 +84,7 @@ fine-verdict s p v h e = sym h ∙ ap verdictOf e
 pub ruleset refusals = (fine-verdict, refused-verdict, refused-memory, refused-none, refused-over, admits)
 
 -- loading
-module _ (s p m : List ℕ) (vars : ℕ) (code words working sets : List ℕ) (h : Loadable s p m vars code words working sets) where
+module _ (s p m : List ℕ) (vars : ℕ) (code words working sets index : List ℕ) (h : Loadable s p m vars code words working sets index) where
   pub load-copy : length s ≡ length working
   load-copy = h .same-length
 
@@ -92,6 +93,9 @@ module _ (s p m : List ℕ) (vars : ℕ) (code words working sets : List ℕ) (h
 
   pub load-sets : length sets ≡ atomWords
   load-sets = h .sets-many
+
+  pub load-index : index ≡ replicate indexWords 0
+  load-index = h .index-blank
 
   pub load-memory : length m ≡ 4 * vars
   load-memory = h .memory-fits
@@ -102,17 +106,17 @@ module _ (s p m : List ℕ) (vars : ℕ) (code words working sets : List ℕ) (h
       let k : vars ≤ variableLimit = rw (h .vars-are) (accepted-program s p (h .verdict) .few) in
       omega arith
 
-  pub load-done : (code₁ words₁ words₂ working₁ sets₁ : List ℕ) (r : ℕ) → working₁ ≡ s → Live working₁ sets₁ → Compiles p code words code₁ words₁ r
+  pub load-done : (code₁ words₁ words₂ working₁ sets₁ index₁ : List ℕ) (r : ℕ) → working₁ ≡ s → Tracked working₁ sets₁ index₁ → Compiles p code words code₁ words₁ r
       → length code₁ ≡ length code → length words₁ ≡ length words → memoryOf (take vars words₂) ≡ m → Kept vars words₁ words₂
-      → Loaded s p m vars code₁ words₂ working₁ sets₁ r
+      → Loaded s p m vars code₁ words₂ working₁ sets₁ index₁ r
   unfolding Compiles
-  load-done code₁ words₁ words₂ working₁ sets₁ r same live made long many values kept =
+  load-done code₁ words₁ words₂ working₁ sets₁ index₁ r same tracked made long many values kept =
       let k : vars ≤ variableLimit = rw (h .vars-are) (accepted-program s p (h .verdict) .few) in
       let u = made s (h .verdict) (h .rooms .room) (h .rooms .blank) in
       let a = h .rooms .room in
       record {
         copied = same;
-        live = live;
+        tracked = tracked;
         starts = record {
           start-is = u .start-is;
           start-there = u .start-there;
@@ -122,7 +126,7 @@ module _ (s p m : List ℕ) (vars : ℕ) (code words working sets : List ℕ) (h
         values = values;
       }
 
-pub ruleset loading = (load-copy, load-accepted, load-sets, load-memory, load-vars, load-done)
+pub ruleset loading = (load-copy, load-accepted, load-sets, load-index, load-memory, load-vars, load-done)
 
 -- finishing
 module _ (s m t w : List ℕ) (vars fuel : ℕ) (stop : Stop) where
@@ -150,15 +154,15 @@ module _ (s m t w : List ℕ) (vars fuel : ℕ) (stop : Stop) where
 pub ruleset finishing = (finish-left, finish-policy, finish-memory, finish-words, finish-done, finish-spent)
 
 -- the run in given buffers
-module _ (s p m : List ℕ) (vars fuel : ℕ) (code words working sets : List ℕ) (start : ℕ) (h : Admitted s p m vars fuel) (l : Loaded s p m vars code words working sets start) where
-  pub run-ready : Ready working p code words sets vars start fuel
+module _ (s p m : List ℕ) (vars fuel : ℕ) (code words working sets index : List ℕ) (start : ℕ) (h : Admitted s p m vars fuel) (l : Loaded s p m vars code words working sets index start) where
+  pub run-ready : Ready working p code words sets index vars start fuel
   run-ready =
       rw (l .copied)
       (record {
         begins = rw (l .values) (h .begins);
         represents = l .starts .represents;
         starts = l .starts .start-is;
-        live = rw (← l .copied) (l .live);
+        tracked = rw (← l .copied) (l .tracked);
         vars-are = h .vars-are;
         code-many = l .room .nodes-many;
         words-many = l .room .words-many;
@@ -207,9 +211,9 @@ module _ (s p m : List ℕ) (vars fuel : ℕ) (h : Admitted s p m vars fuel) whe
   pub copy-count : (w : List ℕ) → length w ≡ 1415 → length s ≡ length (take (length s) w)
   copy-count w e = let l = policy-short in sym (length-take-le (length s) w (omega arith))
 
-  pub beside-loadable : (code words w sets : List ℕ) → Rooms p code words → length w ≡ 1415 → length sets ≡ atomWords → Loadable s p m vars code words (take (length s) w) sets
+  pub beside-loadable : (code words w sets : List ℕ) → Rooms p code words → length w ≡ 1415 → length sets ≡ atomWords → Loadable s p m vars code words (take (length s) w) sets (zeros indexWords)
   beside-loadable code words w sets r e f =
-      record { verdict = h .begins .verdict; vars-are = h .vars-are; memory-fits = rw (h .vars-are) (h .begins .memory-fits); rooms = r; same-length = copy-count w e; sets-many = f }
+      record { verdict = h .begins .verdict; vars-are = h .vars-are; memory-fits = rw (h .vars-are) (h .begins .memory-fits); rooms = r; same-length = copy-count w e; sets-many = f; index-blank = refl }
 
 pub ruleset besides = (policy-short, copy-count, beside-loadable)
 

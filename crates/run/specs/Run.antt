@@ -2,7 +2,7 @@
 use Prim.Native.Nat.{ℕ, _*_, _≤_}
 use mathlib.Core.Path.{_≡_}
 use mathlib.Core.List.{List}
-use lib.ListN.{length, take}
+use lib.ListN.{length, take, replicate}
 use Rattle.model.specs.Number.{fine}
 use Rattle.model.specs.Program.{variables}
 use Rattle.model.specs.Flow.{programVerdict}
@@ -12,7 +12,8 @@ use Rattle.compile.specs.Emits.{Room}
 use Rattle.compile.specs.Represents.{Blank, Starts}
 use Rattle.model.specs.Machine.{answerOf}
 use Rattle.model.specs.Calls.{runAnswer}
-use Rattle.update.specs.Live.{atomWords, Live}
+use Rattle.update.specs.Live.{atomWords}
+use Rattle.update.specs.Index.{indexWords, Tracked}
 use Rattle.run.specs.declared.steps.Stop.{Stop}
 use Rattle.run.specs.Steps.{leftOf, endingOf}
 
@@ -27,18 +28,19 @@ pub record Rooms (p code words : List ℕ) : Type 0 where
   pub blank : Blank code
 
 -- an accepted policy and program with a memory that fits, and buffers that have room
-pub record Loadable (s p m : List ℕ) (vars : ℕ) (code words working sets : List ℕ) : Type 0 where
+pub record Loadable (s p m : List ℕ) (vars : ℕ) (code words working sets index : List ℕ) : Type 0 where
   pub verdict : programVerdict s p ≡ fine
   pub vars-are : vars ≡ variables p
   pub memory-fits : length m ≡ 4 * vars
   pub rooms : Rooms p code words
   pub same-length : length s ≡ length working
   pub sets-many : length sets ≡ atomWords
+  pub index-blank : index ≡ replicate indexWords 0
 
--- a copy of the policy with the sets of its atoms, the program's code and the values of the memory
-pub record Loaded (s p m : List ℕ) (vars : ℕ) (code words working sets : List ℕ) (start : ℕ) : Type 0 where
+-- a copy of the policy with what is tracked of it, the program's code and the values of the memory
+pub record Loaded (s p m : List ℕ) (vars : ℕ) (code words working sets index : List ℕ) (start : ℕ) : Type 0 where
   pub copied : working ≡ s
-  pub live : Live working sets
+  pub tracked : Tracked working sets index
   pub starts : Starts s p code words start
   pub room : Room p code words
   pub values : memoryOf (take vars words) ≡ m

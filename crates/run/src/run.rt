@@ -20,6 +20,8 @@ use shared::bytes;
 use shared::limit;
 use shared::number;
 use update::atoms;
+use update::change;
+use update::index;
 
 // What a run gives: document 01's number, and the units.
 pub struct Answer {
@@ -49,7 +51,7 @@ fn refusal(number: u32) -> Answer
     Answer { number, units: 0 }
 }
 
-// Fills what the run works on beside the caller's buffers: a copy of the policy with the sets of its atoms, the code, the
+// Fills what the run works on beside the caller's buffers: a copy of the policy with what is tracked of it, the code, the
 // values of the variables. The node where the run starts.
 fn load(
     policy: &[u8],
@@ -60,12 +62,13 @@ fn load(
     words: &mut [u32],
     working: &mut [u8],
     sets: &mut [u32],
+    index: &mut [u64],
 ) -> usize
-    requires { ⌜ Loadable (now policy) (now program) (now memory) vars (now code) (now words) (now working) (now sets) ⌝ }
-    ensures { λ r. ⌜ Loaded (now (policy .entry)) (now (program .entry)) (now (memory .entry)) vars (now (code .exit)) (now (words .exit)) (now (working .exit)) (now (sets .exit)) r ⌝ }
+    requires { ⌜ Loadable (now policy) (now program) (now memory) vars (now code) (now words) (now working) (now sets) (now index) ⌝ }
+    ensures { λ r. ⌜ Loaded (now (policy .entry)) (now (program .entry)) (now (memory .entry)) vars (now (code .exit)) (now (words .exit)) (now (working .exit)) (now (sets .exit)) (now (index .exit)) r ⌝ }
 {
     memory::copy_bytes(policy, working);
-    atoms::load(working, sets);
+    change::track(working, sets, index);
     let start = compile::compile::compile(program, code, words);
     memory::load(memory, words, vars);
     start
@@ -111,12 +114,33 @@ fn execute(
     words: &mut [u32],
     working: &mut [u8],
     sets: &mut [u32],
+    index: &mut [u64],
 ) -> Stop
-    requires { ⌜ (Admitted (now policy) (now program) (now memory) vars fuel) × Loadable (now policy) (now program) (now memory) vars (now code) (now words) (now working) (now sets) ⌝ }
+    requires { ⌜ (Admitted (now policy) (now program) (now memory) vars fuel) × Loadable (now policy) (now program) (now memory) vars (now code) (now words) (now working) (now sets) (now index) ⌝ }
     ensures { λ r. ⌜ Executed (now (policy .entry)) (now (program .entry)) (now (memory .entry)) vars fuel r (now (working .exit)) (now (words .exit)) ⌝ }
 {
-    let start = load(policy, program, memory, vars, code, words, working, sets);
-    steps::steps(program, code, words, working, sets, vars, start, fuel)
+    let start = load(
+        policy,
+        program,
+        memory,
+        vars,
+        code,
+        words,
+        working,
+        sets,
+        index,
+    );
+    steps::steps(
+        program,
+        code,
+        words,
+        working,
+        sets,
+        index,
+        vars,
+        start,
+        fuel,
+    )
 }
 
 // The same, and its end in the caller's buffers.
@@ -130,8 +154,9 @@ fn run_in(
     words: &mut [u32],
     working: &mut [u8],
     sets: &mut [u32],
+    index: &mut [u64],
 ) -> Answer
-    requires { ⌜ (Admitted (now policy) (now program) (now memory) vars fuel) × Loadable (now policy) (now program) (now memory) vars (now code) (now words) (now working) (now sets) ⌝ }
+    requires { ⌜ (Admitted (now policy) (now program) (now memory) vars fuel) × Loadable (now policy) (now program) (now memory) vars (now code) (now words) (now working) (now sets) (now index) ⌝ }
     ensures { λ r. ⌜ ended (r .number) (r .units) (now (policy .exit)) (now (memory .exit)) ≡ runAnswer (now (policy .entry)) (now (program .entry)) (now (memory .entry)) fuel ⌝ }
 {
     let stop = execute(
@@ -144,11 +169,12 @@ fn run_in(
         words,
         working,
         sets,
+        index,
     );
     finish(policy, memory, working, words, vars, fuel, stop)
 }
 
-// With room for the code and the words: a copy of the policy, and the sets of its atoms.
+// With room for the code and the words: a copy of the policy, and what is tracked of it.
 fn run_beside(
     policy: &mut [u8],
     program: &[u8],
@@ -164,6 +190,7 @@ fn run_beside(
     let n = policy.len();
     let mut copy = [0u8; POLICY_BYTES];
     let mut sets = [0u32; atoms::WORDS];
+    let mut index = [0u64; index::WORDS];
     run_in(
         policy,
         program,
@@ -174,6 +201,7 @@ fn run_beside(
         words,
         &mut copy[..n],
         &mut sets,
+        &mut index,
     )
 }
 

@@ -1,4 +1,4 @@
-use Rattle.run.proofs.RunLaws.{executing}
+use Rattle.run.proofs.RunLaws.{executing, run-executed}
 use borrow.Author.Needs.{needs}
 use Rattle.run.proofs.run.execute.Statement.{statement}
 use Rattle.run.proofs.run.execute.Tie as tie
@@ -13,4 +13,5 @@ execute-spec =
     (λ c. search (needs, executing))
     (λ c. search (needs, executing))
     (λ c. search (needs, executing))
-    (λ c. search (needs, executing)))
+    (λ c. search (needs, executing))
+    (λ c. run-executed _ _ _ _ _ _ _ _ _ _ _ (c .before .before .before .before .before .before .before .before .before .before .before .before .before .before .before .before .before .before .before .before .before .before .before .before .before .before .before .before .before .before .before .before .before .before .before .before .before .before .pre .0) (c .before .before .before .before .before .before .before .before .before .before .before .before .before .before .before .before .before .before .before .before .before .before .before .before .load .ensures) _ _ _ (search needs) (search needs) (search needs) (search needs)))

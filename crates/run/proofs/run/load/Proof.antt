@@ -15,4 +15,5 @@ load-spec =
     (λ c. search (needs, loading))
     (λ c. search (needs, loading))
     (λ c. search (needs, loading))
+    (λ c. search (needs, loading))
     (λ c. search (needs, loading)))

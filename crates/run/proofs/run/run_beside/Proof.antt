@@ -10,6 +10,7 @@ run-beside-spec =
     (λ c. search (needs, besides))
     (λ c. search (needs, besides))
     (λ c. search (needs, besides))
+    (λ c. search (needs, besides))
     (λ c κs. search (needs, besides))
     (λ c. search (needs, besides))
     (λ c. search (needs, besides))

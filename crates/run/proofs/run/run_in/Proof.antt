@@ -15,4 +15,5 @@ run-in-spec =
     (λ c. search (needs, running))
     (λ c. search (needs, running))
     (λ c. search (needs, running))
+    (λ c. search (needs, running))
     (λ c. search (needs, running)))
