@@ -6,7 +6,6 @@ use native.Mathlib.Nat.{lt-of-lt-of-le, one-mul}
 use native.Mathlib.Decide.{decLt, ℕ-discrete}
 use mathlib.Core.List.{List}
 use mathlib.Core.Bool.{Bool, true, false, cond, _&&_}
-use lib.Pow.{pow-pos}
 use lib.Bits.{bitAnd, and-mask}
 use borrow.Author.Tests.{eq-eqb}
 use lib.Count.{trailingZeros}
@@ -79,10 +78,6 @@ module _ (f : ℕ → Bool) (a : ℕ) where
     each-taken : has a x ≡ true → (b : Bool) → f x ≡ b → (n : ℕ) → x < n → b && eachIn (without a x) f n ≡ eachIn a f n
     each-taken h true e n l = each-without e n
     each-taken h false e n l = sym (each-stops h e n l)
-
--- the lowest number leaves a set
-pub fewer : (a j next : ℕ) → 0 < a → j ≡ trailingZeros 64 a → has a j ≡ true → next ≡ without a (trailingZeros 64 a) → next < a
-fewer a j next l e h f = rw (f, ← e, h) (omega (arith, pow-pos j))
 
 -- the join on a side
 module _ (c : Context) (b : Bool) where

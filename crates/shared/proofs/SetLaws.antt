@@ -6,7 +6,7 @@ use native.Mathlib.Omega.{arith}
 use native.Mathlib.Nat.{one-mul, lt-of-lt-of-le, div-eq-of-lt, div-one, pow-suc}
 use native.Mathlib.Decide.{decLt}
 use lib.Dec.{ltb}
-use lib.Pow.{shl-exact, pow-mono}
+use lib.Pow.{shl-exact, pow-mono, pow-pos}
 use lib.Bits.{bitAnd, bitOr, and-step, and-self}
 use lib.Count.{trailingZeros, under}
 use borrow.Author.Tests.{lt-ltb, le-ltb, eq-eqb}
@@ -76,6 +76,10 @@ lowest-out n h g = low-off 64 n h g ∙ simp (low-has 64 n h g)
 
 pub next-without : (n j next : ℕ) → j ≡ trailingZeros 64 n → next ≡ without n (trailingZeros 64 n) → next ≡ without n j
 next-without n j next e f = rw e f
+
+-- a set is less without its lowest number
+pub fewer : (a j next : ℕ) → 0 < a → j ≡ trailingZeros 64 a → has a j ≡ true → next ≡ without a (trailingZeros 64 a) → next < a
+fewer a j next l e h f = rw (f, ← e, h) (omega (arith, pow-pos j))
 
 -- the power of a number in a set is within the set
 pub held-power : (a i : ℕ) → has a i ≡ true → 2 ^ i ≤ a

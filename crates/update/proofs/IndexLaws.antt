@@ -10,7 +10,6 @@ use mir.Val.{Fits}
 use mir.Syntax.{w64}
 use lib.Bits.{bitOr}
 use lib.Count.{trailingZeros}
-use lib.Pow.{pow-pos}
 use lib.ListN.{length, getD, set, replicate, length-set, length-replicate, getD-replicate}
 use lib.Seq.{getD-set-same, getD-set-other}
 use Rattle.model.specs.Limits.{principalLimit, roleLimit}
@@ -21,7 +20,7 @@ use Rattle.model.proofs.Below.{last-or}
 use Rattle.model.proofs.Rows.{accepted-row}
 use Rattle.model.proofs.Sets.{has-zero, has-or-l, has-or-r, or-has, has-below, has-with-same, has-with, with-has, has-without, without-has}
 use Rattle.model.proofs.Truth.{true-or-false}
-use Rattle.shared.proofs.SetLaws.{next-without}
+use Rattle.shared.proofs.SetLaws.{next-without, fewer}
 use Rattle.update.specs.Index.{holdersAt, staleAt, indexWords, SetInside, Entered, Transposed, Indexed, Loaded, placed, Turned}
 
 -- not in a set, and in none
@@ -30,10 +29,6 @@ not-in a j n = ⊎-elim (λ h. absurd (n h)) (λ h. h) (true-or-false (has a j))
 
 pub none-in : {A : Type 0} (a j : ℕ) → has a j ≡ true → has a j ≡ false → A
 none-in a j h n = absurd (true≢false (sym h ∙ n))
-
--- a set without its lowest number is less
-pub fewer : (a j next : ℕ) → 0 < a → j ≡ trailingZeros 64 a → has a j ≡ true → next ≡ without a (trailingZeros 64 a) → next < a
-fewer a j next l e h f = rw (f, ← e, h) (omega (arith, pow-pos j))
 
 -- i is put into the words of `set` that are not in `rest`
 pub record Entering (from set rest i : ℕ) (w u : List ℕ) : Type 0 where

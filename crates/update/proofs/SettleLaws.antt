@@ -27,10 +27,10 @@ use Rattle.model.proofs.Below.{last-or}
 use Rattle.model.proofs.Least.{meaning-closed, meaning-least}
 use Rattle.model.proofs.Sets.{has-zero, has-or-l, has-or-r, or-has, has-below, has-with-same, has-with, with-has, with-below, has-without, without-has, without-le, xor-has, subset-le, same-sets}
 use Rattle.model.proofs.Truth.{true-or-false, same-truth}
-use Rattle.shared.proofs.SetLaws.{next-without}
+use Rattle.shared.proofs.SetLaws.{next-without, fewer}
 use Rattle.update.specs.Live.{atomWords, Live, FixedLive}
 use Rattle.update.specs.Index.{holdersAt, staleAt, indexWords, Indexed, placed, Fresh, FewStale, Tracked, Settled, Reaching, Spread}
-use Rattle.update.proofs.IndexLaws.{not-in, none-in, fewer, count-is, placed-same, placed-other, transposed-kept}
+use Rattle.update.proofs.IndexLaws.{not-in, none-in, count-is, placed-same, placed-other, transposed-kept}
 
 -- how far a search upwards has come: with the roles that are done, all that take them in are seen
 pub record Climbing (w : List ℕ) (start seen done : ℕ) : Type 0 where

@@ -1,5 +1,6 @@
 -- A meet for what is left of the set is one for the whole: the lowest number leaves the set, and its row joins the meet.
-use Rattle.flow.proofs.JudgeLaws.{Meeting, meetings, fewer}
+use Rattle.flow.proofs.JudgeLaws.{Meeting, meetings}
+use Rattle.shared.proofs.SetLaws.{fewer}
 use Rattle.program.specs.Layout.{sideOf}
 use borrow.Author.Needs.{needs}
 use Rattle.flow.proofs.judge.met_all.Statement.{statement}
