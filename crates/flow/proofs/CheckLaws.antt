@@ -37,7 +37,7 @@ use Rattle.program.proofs.CodeLaws.{statement-byte, statement-none}
 use Rattle.order.specs.Table.{tableWords, queryOf, queryRoles, listRoles, Learnt}
 use Rattle.order.proofs.LearnLaws.{known-learnt}
 use Rattle.gathered.specs.declared.labels.Labels.{Labels}
-use Rattle.gathered.specs.declared.writes.Writes.{Writes}
+use Rattle.gathered.specs.declared.writes.Writes.{Writes as WritesOf}
 use Rattle.gathered.specs.Positions.{ahead, afterList}
 use Rattle.gathered.specs.Labels.{LabelsBelow, exprLabels, LabelsAt}
 use Rattle.gathered.specs.Writes.{stmtWrites, WritesAt}
@@ -50,7 +50,7 @@ use Rattle.flow.specs.declared.lists.QueryOf.the-variants as query
 use Rattle.flow.specs.Lists.{ListedAt, QueryAt, KnownAt, QueryRolesAt, ListRolesAt, AllowedAt}
 use Rattle.flow.specs.Context.{ContextIs, FindsIdle, withLabels, withNamed, within, withMeets, joinOf, meetOf}
 use Rattle.flow.specs.Judge.{SetBelow, sidesNumber, Asked, allAbove, bothAbove, liesIn, Met, MetBoth, Held, updateNumber, AssignNumber}
-use Rattle.flow.specs.Check.{checkedTo, numbered, Ready, Inside, AroundIs, MeetsAre, Stands, StmtAt, Assigns, StmtFits, CheckedAt, CodedAt, AssignAt, UpdateAt, PairAt, BranchesAt, Knowing, BothAt, LearntAt, BranchesOf, bodyStart, EnteredAt, Enters}
+use Rattle.flow.specs.Check.{checkedTo, numbered, Ready, Inside, AroundIs, MeetsAre, Stands, StmtAt, Writes, StmtFits, CheckedAt, CodedAt, AssignAt, UpdateAt, PairAt, BranchesAt, Knowing, BothAt, LearntAt, BranchesOf, bodyStart, EnteredAt, Enters}
 use Rattle.flow.proofs.ContextLaws.{context-expr, context-query, context-list, context-same}
 use Rattle.flow.proofs.ListLaws.{query-not, query-is}
 
@@ -145,33 +145,46 @@ or-zero a b e =
     let m : b ≤ bitOr a b = subset-le b (bitOr a b) (λ i h. has-or-r a b i h) in
     (omega arith, omega arith)
 
--- where nothing is assigned, nothing is in the parts
-assigns-parts : (around : Surroundings) (x a b : Stmt) → assigned x ≡ bitOr (assigned a) (assigned b) → Assigns around x → Assigns around a × Assigns around b
-unfolding Assigns
-assigns-parts outside x a b e f = (tt, tt)
-assigns-parts (inside listed xs rs) x a b e f = (λ z. or-zero (assigned a) (assigned b) (sym e ∙ f z) .0, λ z. or-zero (assigned a) (assigned b) (sym e ∙ f z) .1)
+-- where nothing is assigned or mutated, nothing is in the parts
+writes-parts : (around : Surroundings) (x a b : Stmt) → assigned x ≡ bitOr (assigned a) (assigned b) → mutated x ≡ bitOr (mutated a) (mutated b)
+    → Writes around x → Writes around a × Writes around b
+unfolding Writes
+writes-parts outside x a b e f w = (tt, tt)
+writes-parts (inside listed xs rs) x a b e f w = (
+  (λ z. or-zero (assigned a) (assigned b) (sym e ∙ w .0 z) .0, λ z. or-zero (mutated a) (mutated b) (sym f ∙ w .1 z) .0),
+  (λ z. or-zero (assigned a) (assigned b) (sym e ∙ w .0 z) .1, λ z. or-zero (mutated a) (mutated b) (sym f ∙ w .1 z) .1),
+)
 
-assigns-if : (around : Surroundings) (e : Expr) (a b : Stmt) → Assigns around (if e a b) → Assigns around a × Assigns around b
-unfolding assigned
-assigns-if around e a b f = assigns-parts around (if e a b) a b refl f
+writes-if : (around : Surroundings) (e : Expr) (a b : Stmt) → Writes around (if e a b) → Writes around a × Writes around b
+unfolding assigned mutated
+writes-if around e a b w = writes-parts around (if e a b) a b refl refl w
 
-assigns-query : (around : Surroundings) (at : ℕ) (q : ModelQuery) (a b : Stmt) → Assigns around (stmtQuery at q a b) → Assigns around a × Assigns around b
-unfolding assigned
-assigns-query around at q a b f = assigns-parts around (stmtQuery at q a b) a b refl f
+writes-query : (around : Surroundings) (at : ℕ) (q : ModelQuery) (a b : Stmt) → Writes around (stmtQuery at q a b) → Writes around a × Writes around b
+unfolding assigned mutated
+writes-query around at q a b w = writes-parts around (stmtQuery at q a b) a b refl refl w
 
-assigns-while : (around : Surroundings) (e : Expr) (a : Stmt) → Assigns around (while e a) → Assigns around a
-unfolding Assigns assigned
-assigns-while outside e a f = tt
-assigns-while (inside listed xs rs) e a f = f
+writes-while : (around : Surroundings) (e : Expr) (a : Stmt) → Writes around (while e a) → Writes around a
+unfolding Writes assigned mutated
+writes-while outside e a w = tt
+writes-while (inside listed xs rs) e a w = w
 
-assigns-body : (listed : List ModelQuery) (xs rs : ℕ) (x : Stmt) → assigned x ≡ xs → Assigns (inside listed xs rs) x
-unfolding Assigns
-assigns-body listed xs rs x e z = e ∙ z
+writes-body : (listed : List ModelQuery) (x : Stmt) → Writes (inside listed (assigned x) (mutated x)) x
+unfolding Writes
+writes-body listed x = (λ z. z, λ z. z)
+
+-- an update mutates a role, and so does the transaction around it
+roles-some : (m : Mutation) (ms : List Mutation) → rolesOf (m ∷ ms) ≡ 0 → ⊥
+unfolding rolesOf
+roles-some m ms e = true≢false (sym (has-with-same (rolesOf ms) (m .role)) ∙ ap (λ (n : ℕ). has n (m .role)) e ∙ has-zero (m .role))
+
+writes-update : (listed : List ModelQuery) (xs rs at : ℕ) (m : Mutation) (ms : List Mutation) → Writes (inside listed xs rs) (update at (m ∷ ms)) → rs ≡ 0 → ⊥
+unfolding Writes mutated
+writes-update listed xs rs at m ms w z = roles-some m ms (w .1 z)
 
 block-fits : (s p : List ℕ) (around : Surroundings) (a : Stmt) (rest : List Stmt) → StmtFits s p around (blockOf (a ∷ rest)) → StmtFits s p around a × StmtFits s p around (blockOf rest)
-unfolding blockOf assigned
+unfolding blockOf assigned mutated
 block-fits s p around a rest f =
-    let (l, m) = assigns-parts around (block a (blockOf rest)) a (blockOf rest) refl (f .1) in
+    let (l, m) = writes-parts around (block a (blockOf rest)) a (blockOf rest) refl refl (f .1) in
     ((f .0 .0, l), (f .0 .1, m))
 
 -- where nothing is written, what is known does not matter
@@ -262,10 +275,10 @@ assign-checked p t c at q x m l k n r e₁ e₂ e₃ f g h j s d code around kno
     (sides-checked (mayAssign s p known C x (u .value) reading) (mayAssign s p known C x (u .value) trust) at end)
 
 -- what an update is held to
-met-same : (p t : List ℕ) (m : Meets) {xs xs′ rs rs′ : ℕ} → xs ≡ xs′ → rs ≡ rs′ → MetBoth p t xs rs m → MetBoth p t xs′ rs′ m
+met-same : (p t : List ℕ) (m : Meets) {xs xs′ rs rs′ : ℕ} → xs ≡ xs′ → rs ≡ rs′ → ((rs ≡ 0 → ⊥) → MetBoth p t xs rs m) → (rs′ ≡ 0 → ⊥) → MetBoth p t xs′ rs′ m
 met-same p t m e f h = rw (← e, ← f) h
 
-meets-are : (p t : List ℕ) (R vars : ℕ) (a : Around) (m : Meets) (around : Surroundings) → AroundIs p R vars a around → MetBoth p t (a .variables) (a .roles) m → MeetsAre p t m around
+meets-are : (p t : List ℕ) (R vars : ℕ) (a : Around) (m : Meets) (around : Surroundings) → AroundIs p R vars a around → ((a .roles ≡ 0 → ⊥) → MetBoth p t (a .variables) (a .roles) m) → MeetsAre p t m around
 meets-are p t R vars a m outside h f = tt
 meets-are p t R vars a m (inside listed xs rs) h f = met-same p t m (h .variables-are) (h .roles-are) f
 
@@ -311,13 +324,15 @@ module _ (s p : List ℕ) (c : Context) (at : ℕ) where
       let cl : ContextIs (roles s) l (λ side. C side ++ listLabel side (w .listed)) = rw lc (context-list (roles s) c C (st .context) (roles-few st) (w .listed) (w .parts .listed-below)) in
       let b = stands-context st (ap (λ (c : Context). c .around) lc) (ap (λ (c : Context). c .meets) lc) cl in
       let K : Side → List Atom = λ side. C side ++ listLabel side (w .listed) in
-      let held : MetBoth p t (w .xs) (w .rs) (l .meets) = subst (MeetsAre p t (l .meets)) (w .is) (b .met) in
+      let v₁ = many-more _ (byte p (at + 1)) (at + 2) (u .mutations-read) (u .some) in
+      let writes : Writes (inside (w .listed) (w .xs) (w .rs)) (update at (v₁ .head ∷ v₁ .tail)) = rw (w .is, u .is, v₁ .is) at (fit .1) in
+      let held : MetBoth p t (w .xs) (w .rs) (l .meets) = subst (MeetsAre p t (l .meets)) (w .is) (b .met) (writes-update (w .listed) (w .xs) (w .rs) at (v₁ .head) (v₁ .tail) writes) in
       let side : (side : Side) → liesIn (joinOf side l) (meetOf side (l .meets)) ≡ bothAbove s p known K side (w .xs) (w .rs) = λ side. held side s l known K (stands-asked b) (w .parts .variables-below) (w .parts .roles-below) in
       let n = h ∙ sides-same (side reading) (side trust) in
       rw (u .is, w .is, v, re, oo, n) (sides-checked (mayUpdate s p known C (w .listed) (w .xs) (w .rs) reading) (mayUpdate s p known C (w .listed) (w .xs) (w .rs) trust) at end)
 
 -- entering a transaction
-pub entered-is : (p : List ℕ) (d at q m : ℕ) (a : Around) (v : Writes) → a .inside ≡ true → q ≡ ahead p at 1 → a .count ≡ byte p q → a .list ≡ ahead p at 2
+pub entered-is : (p : List ℕ) (d at q m : ℕ) (a : Around) (v : WritesOf) → a .inside ≡ true → q ≡ ahead p at 1 → a .count ≡ byte p q → a .list ≡ ahead p at 2
     → m ≡ afterList p at 2 → WritesAt p d m v → ListRolesAt p (a .count) (a .list) (a .named) → a .variables ≡ v .variables → a .roles ≡ v .roles
     → EnteredAt p d at a
 unfolding EnteredAt WritesAt ListRolesAt
@@ -333,9 +348,9 @@ entered-is p d at q m a v flag e₁ e₂ e₃ e₄ f g vs rs P R vars listed bod
       listed-read = y;
       listed-below = j;
       named-are = g R listed (bodyStart p at) y;
-      variables-are = vs ∙ ap (λ (r : Writes). r .variables) x;
+      variables-are = vs ∙ ap (λ (r : WritesOf). r .variables) x;
       variables-below = assigned-below P R vars body fit;
-      roles-are = rs ∙ ap (λ (r : Writes). r .roles) x;
+      roles-are = rs ∙ ap (λ (r : WritesOf). r .roles) x;
       roles-below = mutated-below P R vars body fit;
     }
 
@@ -410,14 +425,14 @@ knowing-same s p t q l c = knowing-by s p t t q l c c refl refl refl (λ around 
 
 -- a query in a transaction that writes nothing
 pub asked-idle : (s p t : List ℕ) (c : Context) (d at asked : ℕ) (b : Bool) (r : Answer) → FindsIdle c b → b ≡ true → PairAt s p t c d at r → BranchesOf s p t c d at asked r
-unfolding FindsIdle PairAt BranchesOf BranchesAt Assigns
+unfolding FindsIdle PairAt BranchesOf BranchesAt Writes
 asked-idle s p t c d at asked b r f z g q end i around known C x y mid after below st h fit h′ fit′ =
     let idle = f z in
     let w = within-one p (roles s) (variables p) (c .around) around (st .surrounded) (idle .is-inside) in
     let xs : w .xs ≡ 0 = sym (w .parts .variables-are) ∙ idle .no-variables in
     let rs : w .rs ≡ 0 = sym (w .parts .roles-are) ∙ idle .no-roles in
     let is : around ≡ inside (w .listed) 0 0 = w .is ∙ rw (xs, rs) in
-    let none : assigned x ≡ 0 = subst (λ (a : Surroundings). Assigns a x) is (fit .1) refl in
+    let none : assigned x ≡ 0 = subst (λ (a : Surroundings). Writes a x) is (fit .1) .0 refl in
     let same : flow s p around known C x ≡ flow s p around (q ∷ known) C x = rw is (unasked s p (w .listed) x none known (q ∷ known) C) in
     g around known C x y mid after st h fit h′ fit′ ∙ ap (λ (v : Verdict). checkedTo (orElse v (flow s p around known C y)) after) same
 
@@ -516,7 +531,7 @@ module _ (s p t : List ℕ) (c : Context) (d at : ℕ) where
         let qe : q ≡ at + 1 = e ∙ ahead-is p at 1 (omega (arith, stmt-there p (principals s) (roles s) (variables p) d at i)) in
         let le : l ≡ exprLabels p (u .test) (u .start) = labels-are st q l (u .test) (u .start) f (rw qe (u .test-read)) in
         let w = rw (u .is) at (fit .0) in
-        let (wl, wr) = assigns-if around (u .test) (u .left) (u .right) (rw (u .is) at (fit .1)) in
+        let (wl, wr) = writes-if around (u .test) (u .left) (u .right) (rw (u .is) at (fit .1)) in
         rw (u .is)
         (h around known (λ side. exprLabel p side (u .test) ++ C side) (u .left) (u .right) (u .mid) end
         (under-expr st l k (u .test) (u .start) le g (w .0)) (rw le (u .left-read)) (w .1, wl) (u .right-read) (w .2, wr))
@@ -528,7 +543,7 @@ module _ (s p t : List ℕ) (c : Context) (d at : ℕ) where
         let qe : q ≡ at + 1 = e ∙ ahead-is p at 1 (omega (arith, stmt-there p (principals s) (roles s) (variables p) d at i)) in
         let le : l ≡ exprLabels p (u .test) (u .start) = labels-are st q l (u .test) (u .start) f (rw qe (u .test-read)) in
         let w = rw (u .is) at (fit .0) in
-        let wb = assigns-while around (u .test) (u .body) (rw (u .is) at (fit .1)) in
+        let wb = writes-while around (u .test) (u .body) (rw (u .is) at (fit .1)) in
         rw (u .is)
         (h around known (λ side. exprLabel p side (u .test) ++ C side) (u .body) end
         (under-expr st l k (u .test) (u .start) le g (w .0)) (rw le (u .body-read)) (w .1, wb))
@@ -564,7 +579,7 @@ module _ (s p t : List ℕ) (c : Context) (d at : ℕ) where
           let v = within-one p (roles s) (variables p) (c .around) around (st .surrounded) e in
           let b = listed-is (u .asked) (v .listed) (v .parts .end) (at + 3) (u .asked-parts .inside) (v .parts .listed-read) (u .asked-read) in
           let fits = rw (u .is) at (fit .0) in
-          let (wl, wr) = assigns-query around at (u .asked) (u .left) (u .right) (rw (u .is) at (fit .1)) in
+          let (wl, wr) = writes-query around at (u .asked) (u .left) (u .right) (rw (u .is) at (fit .1)) in
           let me : m ≡ at + 1 = w ∙ ahead-is p at 1 (omega (arith, u .asked-parts .inside)) in
           let asked : readQuery p (roles s) m ≡ got (u .asked) (at + 3) = rw me (u .asked-read) in
           let kc : k ≡ withNamed c (queryRoles (u .asked)) = ek ∙ ap (withNamed c) (f (roles s) (u .asked) (at + 3) asked) in
@@ -606,7 +621,7 @@ module _ (s p t : List ℕ) (c : Context) (d at : ℕ) where
         surrounded = rw ke v;
         met = rw ke (met-same p t z (v .variables-are) (v .roles-are) (f .held .right));
         context = context-same (roles s) c k C (rw ke) (rw ke) (st .context);
-      }) (rw mm (u .body-read)) (fits .1, assigns-body (u .listed) (assigned (u .body)) (mutated (u .body)) (u .body) refl))
+      }) (rw mm (u .body-read)) (fits .1, writes-body (u .listed) (u .body)))
 
   -- any statement
   pub stmt-none : (r : Answer) → d ≡ 0 → CheckedAt s p t c d at r

@@ -266,8 +266,14 @@ module _ (p t : List ℕ) (xs rs : ℕ) where
 
 pub ruleset boths = (met-both, met-sides)
 
-pub held-by : (p t : List ℕ) (c k : Context) (m : Meets) → k ≡ withMeets c m → MetBoth p t (c .around .variables) (c .around .roles) m → Held p t c k
-held-by p t c k m e f = record { by = m; is = e; right = f }
+module _ (p t : List ℕ) (c : Context) where
+  pub held-by : (k : Context) (m : Meets) → k ≡ withMeets c m → MetBoth p t (c .around .variables) (c .around .roles) m → Held p t c k
+  held-by k m e f = record { by = m; is = e; right = λ _. f }
+
+  pub held-none : c .around .roles ≡ 0 → Held p t c c
+  held-none e = record { by = c .meets; is = refl; right = λ n. absurd (n e) }
+
+pub ruleset helds = (held-by, held-none)
 
 module _ (p t : List ℕ) (c : Context) where
   module _ (n : ℕ) (a b : Bool) (e : n ≡ sidesNumber a b) where

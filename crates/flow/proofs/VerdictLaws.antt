@@ -20,7 +20,7 @@ use Rattle.flow.specs.declared.context.Context.{Context}
 use Rattle.flow.specs.declared.verdict.Verdict.{Verdict}
 use Rattle.flow.specs.declared.verdict.Verdict.the-variants.{Fine, Refused}
 use Rattle.flow.specs.Context.{noContext}
-use Rattle.flow.specs.Check.{Assigns, checkedTo, Ready, CheckedAt}
+use Rattle.flow.specs.Check.{Writes, checkedTo, Ready, CheckedAt}
 use Rattle.flow.specs.Verdict.{verdictOf, BodyVerdict}
 use Rattle.flow.proofs.ContextLaws.{context-none}
 use Rattle.flow.proofs.CheckLaws.{reached-not}
@@ -38,7 +38,7 @@ body-ready s t ok k = record { is-accepted = ok; long = k .long }
 module _ (s p t : List ℕ) (n start : ℕ) (c : Context) (ok : Accepted s) (k : Knows s [] t) (e₁ : n ≡ variables p) (e₂ : start ≡ bodyAt n) (ec : c ≡ noContext) (o : Answer)
     (f : CheckedAt s p t c statementDepth start o) where
   body-is : (x : Stmt) (end : ℕ) → readProgram p (principals s) (roles s) ≡ got x end → reachedBy o ≡ checkedTo (flow s p outside [] (λ side. []) x) end
-  unfolding CheckedAt Assigns
+  unfolding CheckedAt Writes
   body-is x end h =
       let u = program-parts p (principals s) (roles s) h in
       let at : start ≡ 6 + 2 * variables p = omega arith in

@@ -56,10 +56,10 @@ abbrev pub AroundIs : List ℕ → ℕ → ℕ → Around → Surroundings → T
 AroundIs p R vars a outside = a .inside ≡ false
 AroundIs p R vars a (inside listed xs rs) = Inside p R vars a listed xs rs
 
--- and what an update there is held to, by the table t
+-- and what an update there, if there is one, is held to by the table t
 abbrev pub MeetsAre : List ℕ → List ℕ → Meets → Surroundings → Type 0
 MeetsAre p t m outside = Unit {0}
-MeetsAre p t m (inside listed xs rs) = MetBoth p t xs rs m
+MeetsAre p t m (inside listed xs rs) = (rs ≡ 0 → ⊥) → MetBoth p t xs rs m
 
 -- what the code carries to a statement stands for what the rules speak of there
 pub record Stands (s p t : List ℕ) (c : Context) (around : Surroundings) (known : List Query) (C : Side → List Atom) : Type 0 where
@@ -75,14 +75,14 @@ pub record Stands (s p t : List ℕ) (c : Context) (around : Surroundings) (know
 abbrev pub StmtAt : List ℕ → List ℕ → ℕ → ℕ → Stmt → ℕ → Type 0
 StmtAt s p depth at x end = readStmt p (principals s) (roles s) (variables p) depth at ≡ got x end
 
--- where the transaction around assigns nothing, neither does what stands in it
-unfoldable pub Assigns : Surroundings → Stmt → Type 0
-Assigns outside x = Unit {0}
-Assigns (inside listed xs rs) x = xs ≡ 0 → assigned x ≡ 0
+-- where the transaction around assigns nothing, or mutates nothing, neither does what stands in it
+unfoldable pub Writes : Surroundings → Stmt → Type 0
+Writes outside x = Unit {0}
+Writes (inside listed xs rs) x = (xs ≡ 0 → assigned x ≡ 0) × (rs ≡ 0 → mutated x ≡ 0)
 
 -- it names only what there is
 abbrev pub StmtFits : List ℕ → List ℕ → Surroundings → Stmt → Type 0
-StmtFits s p around x = Fits (principals s) (roles s) (variables p) x × Assigns around x
+StmtFits s p around x = Fits (principals s) (roles s) (variables p) x × Writes around x
 
 -- r is the answer on the statement that stands at a position
 unfoldable pub CheckedAt : List ℕ → List ℕ → List ℕ → Context → ℕ → ℕ → Answer → Type 0

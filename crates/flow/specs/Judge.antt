@@ -116,11 +116,11 @@ Met p t side xs rs m =
 unfoldable pub MetBoth : List ℕ → List ℕ → ℕ → ℕ → Meets → Type 0
 MetBoth p t xs rs m = (side : Side) → Met p t side xs rs (meetOf side m)
 
--- k is the context c with its updates held to what they are by the table t
+-- k is the context c with its updates, if there are any, held to what they are by the table t
 pub record Held (p t : List ℕ) (c k : Context) : Type 0 where
   pub by : Meets
   pub is : k ≡ withMeets c by
-  pub right : MetBoth p t (c .around .variables) (c .around .roles) by
+  pub right : (c .around .roles ≡ 0 → ⊥) → MetBoth p t (c .around .variables) (c .around .roles) by
 
 -- the number of an update
 abbrev pub updateNumber : Context → ℕ

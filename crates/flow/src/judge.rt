@@ -159,12 +159,15 @@ fn meets_of(program: &[u8], table: &[u64], around: Around) -> Meets
     }
 }
 
-// The context with its updates held to that.
+// The context with its updates held to that. A transaction that mutates no role has none.
 pub fn held(program: &[u8], table: &[u64; table::TABLE_WORDS], context: Context) -> Context
     requires { ⌜ length (now table) ≡ tableWords ⌝ }
     ensures { λ r. ⌜ Held (now (program .entry)) (now (table .entry)) context r ⌝ }
 {
     let around = context.around;
+    if around.roles == 0 {
+        return context;
+    }
     context::with_meets(context, meets_of(program, table, around))
 }
 
