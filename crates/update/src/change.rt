@@ -42,7 +42,7 @@ fn settle_judged(
         return false;
     }
     let before = listed::held(program, listing, count, atoms);
-    settle::settle(policy, atoms, index);
+    settle::settle_all(policy, atoms, index);
     let after = listed::held(program, listing, count, atoms);
     !sets::subset(before, after)
 }

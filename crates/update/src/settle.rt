@@ -44,7 +44,7 @@ fn spread(atoms: &mut [u32], count: usize, among: u64, p: u64)
 }
 
 // One principal at a time.
-fn settle_all(policy: &[u8], atoms: &mut [u32], index: &mut [u64])
+pub fn settle_all(policy: &[u8], atoms: &mut [u32], index: &mut [u64])
     requires { ⌜ Tracked (now policy) (now atoms) (now index) ⌝ }
     ensures { λ _. ⌜ Settled (now (policy .entry)) (now (atoms .exit)) (now (index .exit)) ⌝ }
 {
