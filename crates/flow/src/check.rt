@@ -261,7 +261,8 @@ fn check_while(
     check_stmt(policy, program, table, inner, depth - 1, start)
 }
 
-// Only in a transaction whose list holds it.
+// Only in a transaction whose list holds it. A new query goes straight to check_learnt: were that called by check_asked alone,
+// the compiler would put its table, 4.6 KB, into the frame of every query, known or not.
 fn check_query(
     policy: &[u8],
     program: &[u8],
@@ -274,12 +275,19 @@ fn check_query(
     ensures { λ r. ⌜ CodedAt Query (now (policy .entry)) (now (program .entry)) (now (table .entry)) context depth at r ⌝ }
 {
     let around = context.around;
+    let inner = depth - 1;
     if around.inside {
         let asked = positions::ahead(program, at, 1);
         if lists::is_listed(program, around.count, around.list, asked) {
-            let inner = context::with_named(context, lists::query_roles(program, asked));
+            let joined = context::with_named(context, lists::query_roles(program, asked));
             let start = positions::ahead(program, at, 3);
-            return check_asked(policy, program, table, inner, depth - 1, start, asked);
+            if lists::is_known(program, table, asked) {
+                return check_asked(policy, program, table, joined, inner, start, asked);
+            }
+            if context::is_idle(joined) {
+                return check_asked(policy, program, table, joined, inner, start, asked);
+            }
+            return check_learnt(policy, program, table, joined, inner, start, asked);
         }
         return Answer::Refused(number::FLOW_TRANSACTION, at);
     }

@@ -357,18 +357,30 @@ pub +check-asked+check-block+check-branches+check-held+check-if+check-learnt+che
       query-roles-reads.Learnt,
       with-named-reads.Asked,
       with-named-reads.Learnt,
+      is-known-reads.Asked,
+      is-known-reads.Learnt,
       check-asked-below t,
       check-asked.Post,
+      is-idle-reads.Asked,
+      is-idle-reads.Learnt,
+      check-learnt-below t,
+      check-learnt.Post,
     )
     (check-query-at t)
     check-query.Post
-    (λ c κs. search needs)
-    (λ c κs. search needs)
-    (λ c κs. search needs)
-    (λ c κs. search needs)
-    (λ c κs. search needs)
     (λ c. search needs)
     (λ c κs. search needs)
+    (λ c κs. search needs)
+    (λ c κs. search needs)
+    (λ c κs. search needs)
+    (λ c κs. search needs)
+    (λ c κs. search needs)
+    (λ c κs. (search (needs, c .before .before .before .before .before .before .before .before .before .before .before .before .before .pre), search (needs, c .before .before .before .before .before .before .before .before .before .before .before .before .before .pre)))
+    (λ c. search (needs, query-listed))
+    (λ c κs. search needs)
+    (λ c κs. (search (needs, c .before .before .before .before .before .before .before .before .before .before .before .before .before .before .before .pre), search (needs, c .before .before .before .before .before .before .before .before .before .before .before .before .before .before .before .pre)))
+    (λ c. search (needs, query-listed))
+    (λ c κs. (search (needs, c .before .before .before .before .before .before .before .before .before .before .before .before .before .before .before .pre), search (needs, c .before .before .before .before .before .before .before .before .before .before .before .before .before .before .before .pre)))
     (λ c. search (needs, query-listed))
     (λ c. search (needs, query-unlisted))
     (λ c. search (needs, query-outside)))
