@@ -424,7 +424,7 @@ knowing-same : (s p t : List ℕ) (q : ModelQuery) → Learnt (roles s) t t q �
 knowing-same s p t q l c = knowing-by s p t t q l c c refl refl refl (λ around _ h. h)
 
 -- a query in a transaction that writes nothing
-pub asked-idle : (s p t : List ℕ) (c : Context) (d at asked : ℕ) (b : Bool) (r : Answer) → FindsIdle c b → b ≡ true → PairAt s p t c d at r → BranchesOf s p t c d at asked r
+asked-idle : (s p t : List ℕ) (c : Context) (d at asked : ℕ) (b : Bool) (r : Answer) → FindsIdle c b → b ≡ true → PairAt s p t c d at r → BranchesOf s p t c d at asked r
 unfolding FindsIdle PairAt BranchesOf BranchesAt Writes
 asked-idle s p t c d at asked b r f z g q end i around known C x y mid after below st h fit h′ fit′ =
     let idle = f z in
@@ -437,7 +437,7 @@ asked-idle s p t c d at asked b r f z g q end i around known C x y mid after bel
     g around known C x y mid after st h fit h′ fit′ ∙ ap (λ (v : Verdict). checkedTo (orElse v (flow s p around known C y)) after) same
 
 -- a query that the table knows
-pub asked-known : (s p t : List ℕ) (c : Context) (d at asked : ℕ) (b : Bool) (r : Answer) → KnownAt p t asked b → b ≡ true → BothAt s p t t c c d at r → BranchesOf s p t c d at asked r
+asked-known : (s p t : List ℕ) (c : Context) (d at asked : ℕ) (b : Bool) (r : Answer) → KnownAt p t asked b → b ≡ true → BothAt s p t t c c d at r → BranchesOf s p t c d at asked r
 unfolding KnownAt BothAt BranchesOf
 asked-known s p t c d at asked b r g z h q end i = h q (knowing-same s p t q (known-learnt (roles s) t q b (g (roles s) q end i) z) c)
 
@@ -592,6 +592,12 @@ module _ (s p t : List ℕ) (c : Context) (d at : ℕ) where
       pub query-listed : (r : Answer) → BranchesOf s p t k (d - 1) start m r → CodedAt Query s p t c d at r
       unfolding BranchesOf
       query-listed r h = query-by r h
+
+      pub query-idle : (b : Bool) (r : Answer) → FindsIdle k b → b ≡ true → PairAt s p t k (d - 1) start r → CodedAt Query s p t c d at r
+      query-idle b r f z g = query-listed r (asked-idle s p t k (d - 1) start m b r f z g)
+
+      pub query-known : (b : Bool) (r : Answer) → KnownAt p t m b → b ≡ true → BothAt s p t t k k (d - 1) start r → CodedAt Query s p t c d at r
+      query-known b r f z g = query-listed r (asked-known s p t k (d - 1) start m b r f z g)
 
   -- a transaction
   pub transaction-nested : c .around .inside ≡ true → CodedAt Transaction s p t c d at (Refused 15 at)

@@ -261,8 +261,9 @@ fn check_while(
     check_stmt(policy, program, table, inner, depth - 1, start)
 }
 
-// Only in a transaction whose list holds it. A new query goes straight to check_learnt: were that called by check_asked alone,
-// the compiler would put its table, 4.6 KB, into the frame of every query, known or not.
+// Only in a transaction whose list holds it. In a transaction that writes nothing no table is asked, so what it knows does not
+// matter. A query that the table knows already needs no table of its own: so however deep queries nest, no more tables are
+// held at once than a transaction lists queries.
 fn check_query(
     policy: &[u8],
     program: &[u8],
@@ -281,11 +282,11 @@ fn check_query(
         if lists::is_listed(program, around.count, around.list, asked) {
             let joined = context::with_named(context, lists::query_roles(program, asked));
             let start = positions::ahead(program, at, 3);
-            if lists::is_known(program, table, asked) {
-                return check_asked(policy, program, table, joined, inner, start, asked);
-            }
             if context::is_idle(joined) {
-                return check_asked(policy, program, table, joined, inner, start, asked);
+                return check_pair(policy, program, table, joined, inner, start);
+            }
+            if lists::is_known(program, table, asked) {
+                return check_branches(policy, program, table, table, joined, joined, inner, start);
             }
             return check_learnt(policy, program, table, joined, inner, start, asked);
         }
@@ -294,31 +295,7 @@ fn check_query(
     Answer::Refused(number::FLOW_TRANSACTION, at)
 }
 
-// The branches of the query that stands at `asked`. In a transaction that writes nothing no table is asked, so what it knows
-// does not matter. A query that the table knows already needs no table of its own: so however deep queries nest, no more
-// tables are held at once than a transaction lists queries.
-fn check_asked(
-    policy: &[u8],
-    program: &[u8],
-    table: &[u64; table::TABLE_WORDS],
-    context: Context,
-    depth: u8,
-    at: usize,
-    asked: usize,
-) -> Answer
-    requires { ⌜ Ready (now policy) (now table) ⌝ }
-    ensures { λ r. ⌜ BranchesOf (now (policy .entry)) (now (program .entry)) (now (table .entry)) context depth at asked r ⌝ }
-{
-    if context::is_idle(context) {
-        return check_pair(policy, program, table, context, depth, at);
-    }
-    if lists::is_known(program, table, asked) {
-        return check_branches(policy, program, table, table, context, context, depth, at);
-    }
-    check_learnt(policy, program, table, context, depth, at, asked)
-}
-
-// The same of a query that the table does not know: the first branch has a table that does.
+// The branches of the query that stands at `asked`, which the table does not know: the first has a table that does.
 fn check_learnt(
     policy: &[u8],
     program: &[u8],

@@ -6,7 +6,7 @@ use native.Mathlib.Omega.{arith}
 use native.Mathlib.Decide.{decLt, ℕ-discrete}
 use mathlib.Core.Path.{_≡_, refl, sym, ap, _∙_}
 use mathlib.Core.Logic.{_⊎_, inl, inr, ⊎-elim}
-use mathlib.Core.Bool.{Bool, true, false, cond, _||_}
+use mathlib.Core.Bool.{Bool, true, false, cond, _||_, true≢false}
 use lib.Dec.{eqb}
 use lib.Pow.{shr-shr, pow-lt, pow-mono}
 use lib.Bits.{bitAnd, bitOr, bitXor, differ, and-step, or-step, xor-step, and-shr, or-shr, xor-shr, and-le-l, and-le-r, and-comm, or-lt, xor-add-and}
@@ -43,6 +43,16 @@ same-bits (suc n) a b ha hb f =
 
 pub has-zero : (i : ℕ) → has 0 i ≡ false
 has-zero i = rw (zero-div (2 ^ i))
+
+-- a number is in a set or not
+pub not-in : (a i : ℕ) → (has a i ≡ true → ⊥) → has a i ≡ false
+not-in a i n = ⊎-elim (λ h. absurd (n h)) (λ h. h) (true-or-false (has a i))
+
+pub in-not : {A : Type 0} (a i : ℕ) → has a i ≡ true → has a i ≡ false → A
+in-not a i h n = absurd (true≢false (sym h ∙ n))
+
+pub in-none : {A : Type 0} (i : ℕ) → has 0 i ≡ true → A
+in-none i h = in-not 0 i h (has-zero i)
 
 -- membership in a union, both ways
 pub has-or-l : (a b i : ℕ) → has a i ≡ true → has (bitOr a b) i ≡ true
@@ -81,6 +91,20 @@ subset-le a b f = omega (arith, eqb-true (bitAnd a b) a (has-within a b f), and-
 
 pub same-sets : (a b : ℕ) → ((i : ℕ) → has a i ≡ true → has b i ≡ true) → ((i : ℕ) → has b i ≡ true → has a i ≡ true) → a ≡ b
 same-sets a b f g = omega (arith, subset-le a b f, subset-le b a g)
+
+-- a set is less than with a number that it has not
+pub or-grows : (a b i : ℕ) → has b i ≡ true → has a i ≡ false → a < bitOr a b
+or-grows a b i h n = go (decLt a (bitOr a b))
+  where
+    go : Dec (a < bitOr a b) → a < bitOr a b
+    go (yes l) = l
+    go (no k) =
+        let same : bitOr a b ≡ a = omega (arith, subset-le a (bitOr a b) (has-or-l a b)) in
+        in-not a i (rw same at (has-or-r a b i h)) n
+
+-- sets that differ in no number are the same
+pub xor-none : (a b : ℕ) → bitXor a b ≡ 0 → a ≡ b
+xor-none a b e = omega (arith, xor-add-and a b, and-le-l a b, and-le-r a b)
 
 pub or-assoc : (a b c : ℕ) → bitOr (bitOr a b) c ≡ bitOr a (bitOr b c)
 or-assoc a b c =
@@ -126,9 +150,12 @@ power-is i j h = go (ℕ-discrete j i)
 pub has-power : (j i : ℕ) → has (2 ^ j) i ≡ eqb i j
 has-power j i = same-truth (has (2 ^ j) i) (eqb i j) (λ h. eq-eqb i j (power-is j i h)) (λ h. let e = eqb-true i j h in rw e (eq-eqb _ 1 (power-has j)))
 
+pub power-in : (i : ℕ) → has (2 ^ i) i ≡ true
+power-in i = eq-eqb _ 1 (power-has i)
+
 -- membership in the set with i
 pub has-with-same : (a i : ℕ) → has (with a i) i ≡ true
-has-with-same a i = has-or-r a (2 ^ i) i (eq-eqb _ 1 (power-has i))
+has-with-same a i = has-or-r a (2 ^ i) i (power-in i)
 
 pub has-with : (a i j : ℕ) → has a j ≡ true → has (with a i) j ≡ true
 has-with a i j h = has-or-l a (2 ^ i) j h

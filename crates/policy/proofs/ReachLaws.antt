@@ -3,45 +3,34 @@ use mathlib.Core.Path.{_≡_, refl, sym, ap, _∙_}
 use mathlib.Core.Logic.{_⊎_, inl, inr, ⊎-elim}
 use Prim.Native.Nat.{ℕ, _+_, _-_, _/_, _^_, _<_, _≤_}
 use mathlib.Core.List.{List}
-use mathlib.Core.Bool.{true, false, true≢false}
+use mathlib.Core.Bool.{true, false}
 use native.Mathlib.Omega.{arith}
-use native.Mathlib.Decide.{decLt}
-use native.Mathlib.Nat.{pow-suc, div-eq-of-lt-le}
-use lib.Bits.{bitOr, bitXor, or-lt, and-le-l, and-le-r, xor-add-and, xor-zero-r}
-use lib.Count.{leadingZeros, leading-top}
+use lib.Bits.{bitOr, bitXor, or-lt, xor-zero-r}
 use lib.ListN.{length, getD, set, length-set}
 use lib.Pow.{pow-lt, shr-shr}
 use lib.Seq.{getD-set-same, getD-set-other, ext-getD}
-use borrow.Author.Tests.{eq-eqb}
 use Rattle.model.specs.Limits.{roleLimit}
 use Rattle.model.specs.Sets.{has, with}
 use Rattle.model.specs.Policy.{roles, HasRow, members, takes, Accepted}
 use Rattle.model.specs.Meaning.{meanings, meaning}
 use Rattle.model.proofs.Accepted.{accepted-facts}
 use Rattle.model.proofs.Rows.{accepted-row}
-use Rattle.model.proofs.Sets.{has-zero, has-or-l, has-or-r, or-has, has-below, power-is, has-power, has-with-same, with-has, with-below, xor-has, subset-le, same-sets}
+use Rattle.model.proofs.Sets.{in-not, in-none, has-or-l, has-or-r, or-has, or-grows, has-below, power-is, power-in, has-with-same, with-has, with-below, xor-has, xor-none, subset-le, same-sets}
 use Rattle.model.proofs.Least.{meaning-closed, meaning-least}
 use Rattle.policy.proofs.TakesLaws.{same-or}
 use Rattle.policy.proofs.MeaningLaws.{meanings-length}
 use Rattle.policy.specs.Reach.{Reached, Found, Searches}
-
-none-in : (j : ℕ) → has 0 j ≡ true → ⊥
-none-in j h = true≢false (sym h ∙ has-zero j)
-
--- a number is in the set of it alone
-power-in : (j : ℕ) → has (2 ^ j) j ≡ true
-power-in j = has-power j j ∙ eq-eqb j j refl
 
 -- a search begins with the role itself
 pub begun : (s : List ℕ) (r one : ℕ) → r < roles s → one ≡ with 0 r → Reached s r one 0 0
 begun s r one l e = rw e (record {
   start = power-in r;
   inside = pow-lt l;
-  done-seen = λ j d. absurd (none-in j d);
+  done-seen = λ j d. in-none j d;
   seen-means = λ j p h m. rw (power-is r j h) at m;
-  bits-means = λ p h. absurd (none-in p h);
-  done-own = λ j p d. absurd (none-in j d);
-  done-taken = λ j k d. absurd (none-in j d);
+  bits-means = λ p h. in-none p h;
+  done-own = λ j p d. in-none j d;
+  done-taken = λ j k d. in-none j d;
 })
 
 -- what a role's row says is a search from it that is done with the role itself
@@ -92,13 +81,7 @@ module _ (s : List ℕ) (r seen done bits : ℕ) (h : Reached s r seen done bits
 
     -- once it is done with it, fewer are left
     left-fewer : (done′ : ℕ) → has done′ j ≡ true → 2 ^ roles s - bitOr done done′ < 2 ^ roles s - done
-    left-fewer done′ d = omega (arith, subset-le done seen (h .done-seen), h .inside, go (decLt done (bitOr done done′)))
-      where
-        go : Dec (done < bitOr done done′) → done < bitOr done done′
-        go (yes l) = l
-        go (no k) =
-            let same : bitOr done done′ ≡ done = omega (arith, subset-le done (bitOr done done′) (has-or-l done done′)) in
-            absurd (true≢false (sym (has-or-r done done′ j d) ∙ rw same (left-in .1)))
+    left-fewer done′ d = omega (arith, subset-le done seen (h .done-seen), h .inside, or-grows done done′ j d (left-in .1))
 
   -- a search that is done with all that it has seen has the role's meaning
   whole : seen ≡ done → bits ≡ meaning s r
@@ -116,7 +99,7 @@ module _ (seen done left : ℕ) where
   left-from i e j m = rw shr-shr at (rw e at m)
 
   left-none : left ≡ bitXor seen done → left ≤ 0 → seen ≡ done
-  left-none e z = omega (arith, xor-add-and seen done, and-le-l seen done, and-le-r seen done)
+  left-none e z = xor-none seen done (omega arith)
 
 pub left-whole : (s : List ℕ) (r seen done bits left : ℕ) → Reached s r seen done bits → left ≡ bitXor seen done → left ≤ 0 → bits ≡ meaning s r
 left-whole s r seen done bits left h e z = whole s r seen done bits h (left-none seen done left e z)
@@ -135,18 +118,6 @@ module _ (s : List ℕ) (r seen done bits left j done′ : ℕ) (h : Reached s r
   set-fewer = rw d (left-fewer s r seen done bits h j (left-of seen done left e j m) (2 ^ j) (power-in j))
 
 pub ruleset set-laws = (role-small, begun, left-of, left-row, set-begun, set-turn, set-fewer, left-whole)
-
--- the highest number in a set
-module _ (a : ℕ) (p : 0 < a) (l : a < 2 ^ 64) where
-  pub highest-room : leadingZeros 64 a ≤ 63
-  highest-room = omega (arith, leading-top 64 a p l .1)
-
-  pub highest-in : has a (63 - leadingZeros 64 a) ≡ true
-  highest-in =
-      let (j, e, low, high) = leading-top 64 a p l in
-      let k : 63 - leadingZeros 64 a ≡ j = omega arith in
-      let q : a / 2 ^ j ≡ 1 = div-eq-of-lt-le (2 ^ j) (omega arith) (omega (arith, pow-suc 2 j)) in
-      rw (k, q)
 
 -- what was put into a place
 set-here : (l : List ℕ) (i r x : ℕ) → i < length l → r ≡ i → getD (set l i x) r 0 ≡ x
@@ -235,7 +206,7 @@ far-above s i reached passed bits k f m = go (same-or k 0)
     go : (k ≡ 0) ⊎ (k ≡ 0 → ⊥) → i + 1 ≤ i + k
     go (inl e) =
         let z : i + k ≡ i = omega arith in
-        absurd (true≢false (sym (f .self) ∙ left-in s i reached passed bits (f .reached) i (rw z at m) .1))
+        in-not passed i (f .self) (left-in s i reached passed bits (f .reached) i (rw z at m) .1)
     go (inr q) = omega arith
 
 pub ruleset far-laws = (seen-inside, done-inside, sets-inside, far-role, far-turn, far-fewer)

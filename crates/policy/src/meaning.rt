@@ -27,14 +27,6 @@ struct Search {
     bits: u32,
 }
 
-// The highest number in a set that has one.
-fn highest(a: u64) -> u64
-    requires { ⌜ 0 < a ⌝ }
-    ensures { λ r. ⌜ has a r ≡ true ⌝ }
-{
-    63 - u64::leading_zeros(a) as u64
-}
-
 // The search from role i, gone on by the searches from the roles above it. The lowest comes first: it has gone on most.
 fn with_above(policy: &[u8], i: usize, seen: &[u64], done: &[u64], sets: &[u32]) -> Search
     requires { ⌜ (Searches (now policy) (i + 1) (now seen) (now done) (now sets)) × (Accepted (now policy)) × (i < roles (now policy)) ⌝ }
@@ -69,7 +61,7 @@ fn with_all(policy: &[u8], i: usize, seen: &[u64], done: &[u64], sets: &[u32]) -
     let mut bits = sets[i];
     let mut left = reached ^ passed;
     while 0 < left {
-        let j = highest(left) as usize;
+        let j = sets::highest(left) as usize;
         reached = reached | seen[j];
         passed = passed | done[j];
         bits = bits | sets[j];

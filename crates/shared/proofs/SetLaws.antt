@@ -3,12 +3,12 @@ use mathlib.Core.Path.{_≡_, refl, sym, _∙_}
 use Prim.Native.Nat.{ℕ, zero, suc, _-_, _*_, _/_, _%_, _^_, _<_, _≤_}
 use mathlib.Core.Bool.{Bool, true, false, true≢false}
 use native.Mathlib.Omega.{arith}
-use native.Mathlib.Nat.{one-mul, lt-of-lt-of-le, div-eq-of-lt, div-one, pow-suc}
+use native.Mathlib.Nat.{one-mul, lt-of-lt-of-le, div-eq-of-lt, div-eq-of-lt-le, div-one, pow-suc}
 use native.Mathlib.Decide.{decLt}
 use lib.Dec.{ltb}
 use lib.Pow.{shl-exact, pow-mono, pow-pos}
 use lib.Bits.{bitAnd, bitOr, and-step, and-self}
-use lib.Count.{trailingZeros, under}
+use lib.Count.{trailingZeros, leadingZeros, leading-top, under}
 use borrow.Author.Tests.{lt-ltb, le-ltb, eq-eqb}
 use Rattle.model.specs.Sets.{has, with, without}
 use Rattle.model.proofs.Sets.{half-has, has-below}
@@ -70,6 +70,18 @@ lowest-in = low-has 64
 
 pub lowest-small : (n : ℕ) → 0 < n → n < 2 ^ 64 → trailingZeros 64 n < 64
 lowest-small n h g = has-below 64 n (trailingZeros 64 n) g (lowest-in n h g)
+
+-- the highest
+module _ (a : ℕ) (p : 0 < a) (l : a < 2 ^ 64) where
+  pub highest-room : leadingZeros 64 a ≤ 63
+  highest-room = omega (arith, leading-top 64 a p l .1)
+
+  pub highest-in : has a (63 - leadingZeros 64 a) ≡ true
+  highest-in =
+      let (j, e, low, high) = leading-top 64 a p l in
+      let k : 63 - leadingZeros 64 a ≡ j = omega arith in
+      let q : a / 2 ^ j ≡ 1 = div-eq-of-lt-le (2 ^ j) (omega arith) (omega (arith, pow-suc 2 j)) in
+      rw (k, q)
 
 pub lowest-out : (n : ℕ) → 0 < n → n < 2 ^ 64 → bitAnd n (n - 1) ≡ without n (trailingZeros 64 n)
 lowest-out n h g = low-off 64 n h g ∙ simp (low-has 64 n h g)

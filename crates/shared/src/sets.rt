@@ -73,6 +73,14 @@ pub fn lowest(a: u64) -> u64
     u64::trailing_zeros(a) as u64
 }
 
+// The highest number in a set that has one.
+pub fn highest(a: u64) -> u64
+    requires { ⌜ 0 < a ⌝ }
+    ensures { λ r. ⌜ has a r ≡ true ⌝ }
+{
+    63 - u64::leading_zeros(a) as u64
+}
+
 // The set without its lowest number.
 pub fn without_lowest(a: u64) -> u64
     requires { ⌜ 0 < a ⌝ }

@@ -101,7 +101,13 @@ kept m w n i e l =
     let j : n + (i - n) ≡ i = omega arith in
     ap (λ (x : ℕ). getD (m ++ drop n w) x 0) k ∙ getD-append-add m (drop n w) (i - n) 0 ∙ getD-drop n w (i - n) 0 ∙ ap (λ (x : ℕ). getD w x 0) j
 
--- the meanings anew, in front of what the fixed part gives
+-- viewers, trusters and everyone stand behind the roles
+pub behind : (n : ℕ) → n ≤ roleLimit → (f : Fixed) → n ≤ atomByte (fixed f)
+behind n l (of reading j) = omega arith
+behind n l (of trust j) = omega arith
+behind n l everyone = omega arith
+
+-- the meanings, in front of what the fixed part gives
 pub refreshed : (s w m : List ℕ) (b n : ℕ) → FixedLive s w → b ≡ roles s → n ≡ b → m ≡ meanings s → Live s (m ++ drop n w)
 unfolding atomSet meaning
 refreshed s w m b n h d e k = record { accepted = h .accepted; long = long; sets = sets }
@@ -120,12 +126,7 @@ refreshed s w m b n h d e k = record { accepted = h .accepted; long = long; sets
 
     sets : (a : Atom) → AtomFits (roles s) a → getD (m ++ drop n w) (atomByte a) 0 ≡ atomSet s a
     sets (role j) l = List·getD-append m (drop n w) 0 j (omega (arith, many)) ∙ ap (λ (x : List ℕ). getD x j 0) k
-    sets (fixed f) l = kept m w n (atomByte (fixed f)) (many ∙ sym same) (behind f) ∙ h .sets f l
-      where
-        behind : (f : Fixed) → n ≤ atomByte (fixed f)
-        behind (of reading j) = omega (arith, same, few)
-        behind (of trust j) = omega (arith, same, few)
-        behind everyone = omega (arith, same, few)
+    sets (fixed f) l = kept m w n (atomByte (fixed f)) (many ∙ sym same) (behind n (omega (arith, same, few)) f) ∙ h .sets f l
 
 -- the first words, as many as there are roles
 module _ (s w : List ℕ) (b n : ℕ) (h : FixedLive s w) (d : b ≡ roles s) (e : n ≡ b) where

@@ -3,7 +3,7 @@ use mathlib.Core.Path.{_≡_, refl, sym, ap, _∙_}
 use Prim.Native.Nat.{ℕ, _+_, _*_, _<_, _≤_}
 use mathlib.Core.Logic.{_⊎_, inl, inr, ⊎-elim}
 use mathlib.Core.List.{List}
-use mathlib.Core.Bool.{Bool, true, false, cond, true≢false}
+use mathlib.Core.Bool.{Bool, true, false, true≢false}
 use native.Mathlib.Omega.{arith}
 use native.Mathlib.Decide.{ℕ-discrete}
 use mir.Val.{Fits}
@@ -18,17 +18,10 @@ use Rattle.model.specs.Policy.{roles, principals, members, takes, HasRow, Accep
 use Rattle.model.proofs.Accepted.{accepted-facts}
 use Rattle.model.proofs.Below.{last-or}
 use Rattle.model.proofs.Rows.{accepted-row}
-use Rattle.model.proofs.Sets.{has-zero, has-or-l, has-or-r, or-has, has-below, has-with-same, has-with, with-has, has-without, without-has}
+use Rattle.model.proofs.Sets.{has-zero, not-in, in-not, in-none, has-or-l, has-or-r, or-has, has-below, has-with-same, has-with, with-has, has-without, without-has}
 use Rattle.model.proofs.Truth.{true-or-false}
 use Rattle.shared.proofs.SetLaws.{next-without, fewer}
-use Rattle.update.specs.Index.{holdersAt, staleAt, indexWords, SetInside, Entered, Transposed, Indexed, Loaded, placed, Turned}
-
--- not in a set, and in none
-pub not-in : (a j : ℕ) → (has a j ≡ true → ⊥) → has a j ≡ false
-not-in a j n = ⊎-elim (λ h. absurd (n h)) (λ h. h) (true-or-false (has a j))
-
-pub none-in : {A : Type 0} (a j : ℕ) → has a j ≡ true → has a j ≡ false → A
-none-in a j h n = absurd (true≢false (sym h ∙ n))
+use Rattle.update.specs.Index.{holdersAt, staleAt, indexWords, SetInside, Entered, Transposed, Loaded, placed, Turned}
 
 -- i is put into the words of `set` that are not in `rest`
 pub record Entering (from set rest i : ℕ) (w u : List ℕ) : Type 0 where
@@ -40,7 +33,7 @@ pub record Entering (from set rest i : ℕ) (w u : List ℕ) : Type 0 where
 
 pub entering-start : (from set i : ℕ) (w : List ℕ) → Entering from set set i w w
 entering-start from set i w =
-    record { long = refl; in-rest = λ j h. h; entered = λ j h n. none-in set j h n; waiting = λ j h. refl; others = λ k n. refl }
+    record { long = refl; in-rest = λ j h. h; entered = λ j h n. in-not set j h n; waiting = λ j h. refl; others = λ k n. refl }
 
 module _ (from all rest i : ℕ) (w u : List ℕ) (inside : SetInside from all) (long : length w ≡ indexWords) (h : Entering from all rest i w u) where
   pub entering-inside : (j : ℕ) → has rest j ≡ true → from + j < length u
@@ -74,7 +67,7 @@ module _ (from all rest i : ℕ) (w u : List ℕ) (inside : SetInside from all) 
       go l p n (yes e) = rw e (getD-set-same u (from + j) _ 0 (entering-inside j m) ∙ ap (λ (x : ℕ). with x i) (h .waiting j m))
       go l p n (no d) =
           getD-set-other u (from + j) (from + l) _ 0 (λ e. d (omega arith))
-          ∙ h .entered l p (not-in rest l (λ q. none-in next l (rw is (has-without rest j l q d)) n))
+          ∙ h .entered l p (not-in rest l (λ q. in-not next l (rw is (has-without rest j l q d)) n))
 
   pub entering-done : rest ≤ 0 → Entered from all i w u
   entering-done z =
@@ -102,8 +95,8 @@ module _ (a i : ℕ) where
       stays false y = has-without a i j y n
 
       leaves : (b : Bool) → has a j ≡ false → has (placed b a i) j ≡ false
-      leaves true f = not-in (with a i) j (λ h. ⊎-elim n (λ y. none-in a j y f) (with-has a i j h))
-      leaves false f = not-in (without a i) j (λ h. none-in a j (without-has a i j h .0) f)
+      leaves true f = not-in (with a i) j (λ h. ⊎-elim n (λ y. in-not a j y f) (with-has a i j h))
+      leaves false f = not-in (without a i) j (λ h. in-not a j (without-has a i j h .0) f)
 
 -- two truths are the same, or not
 pub same-or-not : (a b : Bool) → (a ≡ b) ⊎ (a ≡ b → ⊥)
@@ -119,7 +112,7 @@ module _ (f : ℕ → ℕ) (from width n : ℕ) (w u : List ℕ) (h : Transposed
   transposed-more g = record { same = λ j i l b. same j i l (true-or-false (has (f n) j)) (last-or n i (omega arith)); below = λ j i l m. below j i l m (true-or-false (has (f n) j)) (ℕ-discrete i n) }
     where
       kept : (j : ℕ) → has (f n) j ≡ false → getD u (from + j) 0 ≡ getD w (from + j) 0
-      kept j e = g .others (from + j) (λ l m q. let k : l ≡ j = omega arith in none-in (f n) j (rw k at m) e)
+      kept j e = g .others (from + j) (λ l m q. let k : l ≡ j = omega arith in in-not (f n) j (rw k at m) e)
 
       same : (j i : ℕ) → j < width → (has (f n) j ≡ true) ⊎ (has (f n) j ≡ false) → (i ≡ n) ⊎ (i < n) → has (getD u (from + j) 0) i ≡ has (f i) j
       same j i l (inl y) (inl e) = rw (e, g .entered j y) (placed-same (getD w (from + j) 0) n true ∙ sym y)
@@ -205,7 +198,7 @@ module _ (s w : List ℕ) (ok : Accepted s) where
       none : (f : ℕ → ℕ) (from width : ℕ) → from + width < indexWords → Transposed f from width 0 w
       none f from width l = record {
         same = λ j i b m. absurd (omega arith);
-        below = λ j i b m. absurd (true≢false (sym (rw (zero-at (from + j) (omega arith)) at m) ∙ has-zero i));
+        below = λ j i b m. in-none i (rw (zero-at (from + j) (omega arith)) at m);
       }
 
   module _ (n : ℕ) (h : Loaded s n w) where
@@ -254,7 +247,7 @@ module _ (k i : ℕ) (present : Bool) (more : ℕ) (w : List ℕ) (v : ℕ) (e :
     others = λ m l n. refl;
     still-stale = λ p h. h;
     now-stale = λ p h n. absurd (n (ap (λ (x : ℕ). has x i) (sym q ∙ e) ∙ placed-same (getD w k 0) i present));
-    only-stale = λ p h n. none-in (getD w staleAt 0) p h n;
+    only-stale = λ p h n. in-not (getD w staleAt 0) p h n;
   }
 
   module _ (long : length w ≡ indexWords) (l : k < staleAt) where
@@ -268,7 +261,7 @@ module _ (k i : ℕ) (present : Bool) (more : ℕ) (w : List ℕ) (v : ℕ) (e :
       others = λ m b n. getD-set-other (set w k v) staleAt m _ 0 (λ q. omega arith) ∙ getD-set-other w k m v 0 n;
       still-stale = λ p h. rw now (has-or-l (getD w staleAt 0) more p h);
       now-stale = λ p h n. rw now (has-or-r (getD w staleAt 0) more p h);
-      only-stale = λ p h n. ⊎-elim (λ y. none-in (getD w staleAt 0) p y n) (λ y. y) (or-has (getD w staleAt 0) more p (rw now at h));
+      only-stale = λ p h n. ⊎-elim (λ y. in-not (getD w staleAt 0) p y n) (λ y. y) (or-has (getD w staleAt 0) more p (rw now at h));
     }
       where
         now : getD (set (set w k v) staleAt (bitOr x more)) staleAt 0 ≡ bitOr (getD w staleAt 0) more

@@ -1,36 +1,36 @@
 -- A law for each return of settle.rt, and for its loops: one principal's places are right once they are made anew, and when no
 -- principal is stale the sets are those of the policy.
-use mathlib.Core.Path.{_≡_, refl, sym, ap, _∙_}
+use mathlib.Core.Path.{_≡_, refl, sym, _∙_}
 use Prim.Native.Nat.{ℕ, _+_, _-_, _^_, _<_, _≤_}
-use mathlib.Core.Logic.{_⊎_, inl, inr, ⊎-elim}
+use mathlib.Core.Logic.{⊎-elim}
 use mathlib.Core.List.{List}
-use mathlib.Core.Bool.{Bool, true, false, cond, true≢false}
+use mathlib.Core.Bool.{Bool, true, false}
 use native.Mathlib.Omega.{arith}
-use native.Mathlib.Decide.{decLt, ℕ-discrete}
+use native.Mathlib.Decide.{ℕ-discrete}
 use native.Mathlib.Nat.{lt-of-le-of-lt}
 use mir.Val.{Fits}
 use mir.Syntax.{w32}
-use lib.Bits.{bitOr, bitXor, and-le-l, and-le-r, xor-add-and, xor-zero-r}
+use lib.Bits.{bitOr, bitXor, xor-zero-r}
 use lib.Count.{trailingZeros}
 use lib.ListN.{length, getD, set, length-set}
 use lib.Seq.{getD-set-same, getD-set-other}
 use Rattle.model.specs.Limits.{principalLimit, roleLimit}
 use Rattle.model.specs.Sets.{has, with, without}
-use Rattle.model.specs.Policy.{reading, trust, roles, members, takes, Accepted}
-use Rattle.model.specs.Syntax.{Fixed, of, everyone, Atom, role, fixed, atomByte}
+use Rattle.model.specs.Policy.{roles, members, takes, Accepted}
+use Rattle.model.specs.Syntax.{Atom, role, fixed, atomByte}
 use Rattle.model.specs.Fits.{AtomFits}
-use Rattle.model.specs.Order.{fixedSet}
 use Rattle.model.specs.Atoms.{atomSet}
 use Rattle.model.specs.Meaning.{meaning}
 use Rattle.model.proofs.Accepted.{accepted-facts}
 use Rattle.model.proofs.Below.{last-or}
 use Rattle.model.proofs.Least.{meaning-closed, meaning-least}
-use Rattle.model.proofs.Sets.{has-zero, has-or-l, has-or-r, or-has, has-below, has-with-same, has-with, with-has, with-below, has-without, without-has, without-le, xor-has, subset-le, same-sets}
-use Rattle.model.proofs.Truth.{true-or-false, same-truth}
+use Rattle.model.proofs.Sets.{has-zero, not-in, in-not, in-none, has-or-l, has-or-r, or-has, or-grows, has-below, power-in, with-has, with-below, has-without, without-has, without-le, xor-has, xor-none, same-sets}
+use Rattle.model.proofs.Truth.{same-truth}
 use Rattle.shared.proofs.SetLaws.{next-without, fewer}
-use Rattle.update.specs.Live.{atomWords, Live, FixedLive}
+use Rattle.update.specs.Live.{atomWords, FixedLive}
 use Rattle.update.specs.Index.{holdersAt, staleAt, indexWords, Indexed, placed, Fresh, FewStale, Tracked, Settled, Reaching, Spread}
-use Rattle.update.proofs.IndexLaws.{not-in, none-in, count-is, placed-same, placed-other, transposed-kept}
+use Rattle.update.proofs.IndexLaws.{count-is, placed-same, placed-other, transposed-kept}
+use Rattle.update.proofs.AtomLaws.{behind}
 
 -- how far a search upwards has come: with the roles that are done, all that take them in are seen
 pub record Climbing (w : List ℕ) (start seen done : ℕ) : Type 0 where
@@ -43,8 +43,8 @@ pub record Climbing (w : List ℕ) (start seen done : ℕ) : Type 0 where
 pub climbing-start : (w : List ℕ) (start : ℕ) → Climbing w start start 0
 climbing-start w start = record {
   starts = λ i h. h;
-  done-seen = λ i h. none-in 0 i h (has-zero i);
-  done-closed = λ j i h m. none-in 0 j h (has-zero j);
+  done-seen = λ i h. in-none i h;
+  done-closed = λ j i h m. in-none j h;
   least = λ H f g i h. f i h;
 }
 
@@ -67,21 +67,11 @@ module _ (w : List ℕ) (start seen done left : ℕ) (e : left ≡ bitXor seen d
     })
 
     pub climbing-less : (next : ℕ) → next ≡ with done j → next < 2 ^ 64 → 2 ^ 64 - next < 2 ^ 64 - done
-    climbing-less next n l = omega (arith, grows)
-      where
-        grows : done < next
-        grows = go (decLt done next)
-          where
-            go : Dec (done < next) → done < next
-            go (yes k) = k
-            go (no k) =
-                let q : next ≡ done = omega (arith, subset-le done next (λ i p. rw n (has-with done j i p))) in
-                none-in done j (rw (sym n ∙ q) at (has-with-same done j)) (here .1)
+    climbing-less next n l = omega (arith, or-grows done (2 ^ j) j (power-in j) (here .1))
 
   pub climbing-done : left ≤ 0 → Reaching w start seen
   climbing-done z =
-      let n : bitXor seen done ≡ 0 = omega arith in
-      let q : seen ≡ done = omega (arith, xor-add-and seen done, and-le-l seen done, and-le-r seen done) in
+      let q : seen ≡ done = xor-none seen done (omega arith) in
       record { starts = h .starts; closed = λ j i p m. h .done-closed j i (rw q at p) m; least = h .least }
 
 pub ruleset climbings = (climbing-start, none-done, climbing-more, climbing-less, climbing-done)
@@ -151,16 +141,10 @@ pub record Settling (s atoms w : List ℕ) (stale : ℕ) : Type 0 where
   pub few-stale : FewStale stale
   pub fresh : Fresh s atoms stale
 
--- viewers, trusters and everyone stand behind the roles
-behind : (R : ℕ) → R ≤ roleLimit → (f : Fixed) → R ≤ atomByte (fixed f)
-behind R l (of reading j) = omega arith
-behind R l (of trust j) = omega arith
-behind R l everyone = omega arith
-
 settled-from : (s atoms w : List ℕ) → FixedLive s atoms → Indexed s (roles s) w → getD w staleAt 0 ≡ 0 → Fresh s atoms 0 → Settled s atoms w
 unfolding Fresh FewStale atomSet
 settled-from s atoms w f i z h = record {
-  tracked = record { fixed-live = f; indexed = i; few-stale = λ p m. none-in 0 p (rw z at m) (has-zero p); fresh = rw z h };
+  tracked = record { fixed-live = f; indexed = i; few-stale = λ p m. in-none p (rw z at m); fresh = rw z h };
   live = record { accepted = f .accepted; long = f .long; sets = sets };
 }
   where
@@ -216,7 +200,7 @@ module _ (s atoms w : List ℕ) where
         go r q l n (yes e) =
             rw (e, d .inside r (omega arith)) (placed-same (getD atoms r 0) p (has among r) ∙ among-is s w ok (h .indexed) p among (h .few-stale p m) (rw es at g) r)
         go r q l n (no c) =
-            rw (d .inside r (omega arith)) (placed-other (getD atoms r 0) p (has among r) q c ∙ h .fresh r q l (not-in stale q (λ y. none-in next q (rw is (has-without stale p q y c)) n)))
+            rw (d .inside r (omega arith)) (placed-other (getD atoms r 0) p (has among r) q c ∙ h .fresh r q l (not-in stale q (λ y. in-not next q (rw is (has-without stale p q y c)) n)))
 
     pub settling-done : stale ≤ 0 → (w₁ : List ℕ) → w₁ ≡ set w staleAt 0 → Settled s atoms w₁
     settling-done z w₁ e =

@@ -3,12 +3,12 @@
 -- taken roles.
 use mathlib.Core.Path.{_≡_, refl, sym, ap, _∙_}
 use Prim.Native.Nat.{ℕ, _+_, _<_, _≤_}
-use mathlib.Core.Logic.{_⊎_, inl, inr, ⊎-elim}
+use mathlib.Core.Logic.{⊎-elim}
 use mathlib.Core.List.{List}
-use mathlib.Core.Bool.{Bool, true, false, true≢false}
+use mathlib.Core.Bool.{Bool, true, false}
 use native.Mathlib.Omega.{arith}
 use native.Mathlib.Decide.{ℕ-discrete}
-use lib.ListN.{length, getD}
+use lib.ListN.{getD}
 use Rattle.model.specs.Limits.{principalLimit, roleLimit}
 use Rattle.model.specs.Sets.{has}
 use Rattle.model.specs.Policy.{reading, principals, roles, members, takes, viewers, watchers, Accepted, SameFixed, Agree}
@@ -20,15 +20,14 @@ use Rattle.model.proofs.Accepted.{accepted-facts}
 use Rattle.model.proofs.Columns.{column-stays}
 use Rattle.model.proofs.Meaning.{meaning-watched}
 use Rattle.model.proofs.Mutation.{mutate-fixed, mutate-other, mutate-row}
-use Rattle.model.proofs.Sets.{has-zero, has-below, power-is, has-power}
+use Rattle.model.proofs.Sets.{not-in, in-not, in-none, has-below, power-is, power-in}
 use Rattle.model.proofs.Truth.{true-or-false}
 use Rattle.shared.specs.Words.{single}
 use Rattle.shared.proofs.SetLaws.{single-is}
-use borrow.Author.Tests.{eq-eqb}
-use Rattle.update.specs.Live.{Live, FixedLive}
-use Rattle.update.specs.Index.{holdersAt, staleAt, indexWords, Indexed, Loaded, placed, Turned, Noted, Fresh, FewStale, Tracked}
+use Rattle.update.specs.Live.{Live}
+use Rattle.update.specs.Index.{holdersAt, staleAt, Loaded, placed, Turned, Noted, Fresh, FewStale, Tracked}
 use Rattle.update.proofs.AtomLaws.{fixed-of, fixed-stays}
-use Rattle.update.proofs.IndexLaws.{not-in, none-in, placed-same, placed-other, same-or-not, transposed-kept, transposed-turned}
+use Rattle.update.proofs.IndexLaws.{placed-same, placed-other, same-or-not, transposed-kept, transposed-turned}
 
 -- when a run begins no place is stale
 pub tracked-loaded : (s atoms w : List ℕ) → Live s atoms → Loaded s (roles s) w → Tracked s atoms w
@@ -36,7 +35,7 @@ unfolding Fresh FewStale atomSet
 tracked-loaded s atoms w live l = record {
   fixed-live = fixed-of s atoms live;
   indexed = l .indexed;
-  few-stale = λ p m. none-in 0 p (rw (l .none-stale) at m) (has-zero p);
+  few-stale = λ p m. in-none p (rw (l .none-stale) at m);
   fresh = λ r p k n. ap (λ (x : ℕ). has x p) (live .sets (role r) k);
 }
 
@@ -57,7 +56,7 @@ module _ (s t atoms w u : List ℕ) (r x : ℕ) (present : Bool) (h : Tracked s 
 
   -- who is not stale now was not before
   was-fresh : (k more : ℕ) → Turned k r present more w u → (p : ℕ) → has (getD u staleAt 0) p ≡ false → has (getD w staleAt 0) p ≡ false
-  was-fresh k more g p n = not-in (getD w staleAt 0) p (λ y. none-in (getD u staleAt 0) p (g .still-stale p y) n)
+  was-fresh k more g p n = not-in (getD w staleAt 0) p (λ y. in-not (getD u staleAt 0) p (g .still-stale p y) n)
 
   -- a member comes or goes
   module _ (x-there : x < principalLimit) (own : members t r ≡ placed present (members s r) x) (taken : takes t r ≡ takes s r) (g : Turned (holdersAt + x) r present (single x) w u) where
@@ -76,14 +75,14 @@ module _ (s t atoms w u : List ℕ) (r x : ℕ) (present : Bool) (h : Tracked s 
         word = h .indexed .holders .same x r x-there r-there
 
         in-single : has (single x) x ≡ true
-        in-single = rw (single-is x (omega arith)) (has-power x x ∙ eq-eqb x x refl)
+        in-single = rw (single-is x (omega arith)) (power-in x)
 
         go : Dec (i ≡ r) → Dec (p ≡ x) → has (members t i) p ≡ has (members s i) p
         go (no d) c = ap (λ (y : ℕ). has y p) (sym (others i d .same-members))
         go (yes e) (no d) = rw (e, own) (placed-other (members s r) x present p d)
         go (yes e) (yes q) = ⊎-elim
             (λ a. rw (e, q, own) (placed-same (members s r) x present ∙ sym a ∙ word))
-            (λ a. none-in (getD u staleAt 0) x (g .now-stale x in-single a) (rw q at n))
+            (λ a. in-not (getD u staleAt 0) x (g .now-stale x in-single a) (rw q at n))
             (same-or-not (has (getD w (holdersAt + x) 0) r) present)
 
     pub tracked-member : Tracked t atoms u
@@ -131,7 +130,7 @@ module _ (s t atoms w u : List ℕ) (r x : ℕ) (present : Bool) (h : Tracked s 
         go (yes e) (no d) = rw (e, own) (placed-other (takes s r) x present j d)
         go (yes e) (yes q) = ⊎-elim
             (λ a. rw (e, q, own) (placed-same (takes s r) x present ∙ sym a ∙ word))
-            (λ a. none-in (getD u staleAt 0) p (g .now-stale p (means (rw q at m)) a) n)
+            (λ a. in-not (getD u staleAt 0) p (g .now-stale p (means (rw q at m)) a) n)
             (same-or-not (has (getD w x 0) r) present)
 
     pub tracked-taken : Tracked t atoms u

@@ -51,8 +51,8 @@ fn load_fixed(policy: &[u8], atoms: &mut [u32])
     atoms[EVERYONE] = all_of(bytes::wide(rows::principals_of(policy)) as u64);
 }
 
-// The meanings of the policy as it is now.
-pub fn refresh(policy: &[u8], atoms: &mut [u32])
+// The meanings of the policy.
+fn load_meanings(policy: &[u8], atoms: &mut [u32])
     requires { ⌜ FixedLive (now policy) (now atoms) ⌝ }
     ensures { λ _. ⌜ Live (now (policy .entry)) (now (atoms .exit)) ⌝ }
 {
@@ -66,7 +66,7 @@ pub fn load(policy: &[u8], atoms: &mut [u32])
     ensures { λ _. ⌜ Live (now (policy .entry)) (now (atoms .exit)) ⌝ }
 {
     load_fixed(policy, atoms);
-    refresh(policy, atoms);
+    load_meanings(policy, atoms);
 }
 
 // The set of an atom, by its byte.

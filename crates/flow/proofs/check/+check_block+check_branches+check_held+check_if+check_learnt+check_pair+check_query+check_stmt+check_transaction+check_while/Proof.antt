@@ -1,43 +1,40 @@
 -- The cycle of checks: each return is the verdict of the tree that stands at the position, by a law for that return; the
 -- remaining depth falls, and where it stays each callee comes after its caller. A block: what is left of it decides.
-use Rattle.flow.proofs.CheckLaws.{Blocking, pair-first, pair-second, few-roles, ready-too, branches-first, branches-second, held-both, asked-idle, asked-known, learnt-none, learnt-both, block-start, block-done, block-refused, block-more, block-skip, if-checked, while-checked, query-outside, query-unlisted, query-listed, transaction-nested, transaction-body, stmt-none, stmt-unknown, stmt-skip, stmt-assign, stmt-update, stmt-coded}
+use Rattle.flow.proofs.CheckLaws.{Blocking, pair-first, pair-second, few-roles, ready-too, branches-first, branches-second, held-both, learnt-none, learnt-both, block-start, block-done, block-refused, block-more, block-skip, if-checked, while-checked, query-outside, query-unlisted, query-idle, query-known, query-listed, transaction-nested, transaction-body, stmt-none, stmt-unknown, stmt-skip, stmt-assign, stmt-update, stmt-coded}
 use borrow.Author.Needs.{needs}
 use Prim.Native.Nat.{ℕ, _<_, _+_, _*_}
 use borrow.Fn.Kinds.{In}
 use borrow.Fn.PlainCycle.{Measures, is, falls, and}
-use Rattle.flow.proofs.check.check_asked.Reads as check-asked
-use Rattle.flow.proofs.check.check_asked.Kinds as check-asked-kinds
-use Rattle.flow.proofs.check.+check_asked+check_block+check_branches+check_held+check_if+check_learnt+check_pair+check_query+check_stmt+check_transaction+check_while.Lts-check_asked as check-asked-lts
 use Rattle.flow.proofs.check.check_block.Reads as check-block
 use Rattle.flow.proofs.check.check_block.Kinds as check-block-kinds
-use Rattle.flow.proofs.check.+check_asked+check_block+check_branches+check_held+check_if+check_learnt+check_pair+check_query+check_stmt+check_transaction+check_while.Lts-check_block as check-block-lts
+use Rattle.flow.proofs.check.+check_block+check_branches+check_held+check_if+check_learnt+check_pair+check_query+check_stmt+check_transaction+check_while.Lts-check_block as check-block-lts
 use Rattle.flow.proofs.check.check_branches.Reads as check-branches
 use Rattle.flow.proofs.check.check_branches.Kinds as check-branches-kinds
-use Rattle.flow.proofs.check.+check_asked+check_block+check_branches+check_held+check_if+check_learnt+check_pair+check_query+check_stmt+check_transaction+check_while.Lts-check_branches as check-branches-lts
+use Rattle.flow.proofs.check.+check_block+check_branches+check_held+check_if+check_learnt+check_pair+check_query+check_stmt+check_transaction+check_while.Lts-check_branches as check-branches-lts
 use Rattle.flow.proofs.check.check_held.Reads as check-held
 use Rattle.flow.proofs.check.check_held.Kinds as check-held-kinds
-use Rattle.flow.proofs.check.+check_asked+check_block+check_branches+check_held+check_if+check_learnt+check_pair+check_query+check_stmt+check_transaction+check_while.Lts-check_held as check-held-lts
+use Rattle.flow.proofs.check.+check_block+check_branches+check_held+check_if+check_learnt+check_pair+check_query+check_stmt+check_transaction+check_while.Lts-check_held as check-held-lts
 use Rattle.flow.proofs.check.check_if.Reads as check-if
 use Rattle.flow.proofs.check.check_if.Kinds as check-if-kinds
-use Rattle.flow.proofs.check.+check_asked+check_block+check_branches+check_held+check_if+check_learnt+check_pair+check_query+check_stmt+check_transaction+check_while.Lts-check_if as check-if-lts
+use Rattle.flow.proofs.check.+check_block+check_branches+check_held+check_if+check_learnt+check_pair+check_query+check_stmt+check_transaction+check_while.Lts-check_if as check-if-lts
 use Rattle.flow.proofs.check.check_learnt.Reads as check-learnt
 use Rattle.flow.proofs.check.check_learnt.Kinds as check-learnt-kinds
-use Rattle.flow.proofs.check.+check_asked+check_block+check_branches+check_held+check_if+check_learnt+check_pair+check_query+check_stmt+check_transaction+check_while.Lts-check_learnt as check-learnt-lts
+use Rattle.flow.proofs.check.+check_block+check_branches+check_held+check_if+check_learnt+check_pair+check_query+check_stmt+check_transaction+check_while.Lts-check_learnt as check-learnt-lts
 use Rattle.flow.proofs.check.check_pair.Reads as check-pair
 use Rattle.flow.proofs.check.check_pair.Kinds as check-pair-kinds
-use Rattle.flow.proofs.check.+check_asked+check_block+check_branches+check_held+check_if+check_learnt+check_pair+check_query+check_stmt+check_transaction+check_while.Lts-check_pair as check-pair-lts
+use Rattle.flow.proofs.check.+check_block+check_branches+check_held+check_if+check_learnt+check_pair+check_query+check_stmt+check_transaction+check_while.Lts-check_pair as check-pair-lts
 use Rattle.flow.proofs.check.check_query.Reads as check-query
 use Rattle.flow.proofs.check.check_query.Kinds as check-query-kinds
-use Rattle.flow.proofs.check.+check_asked+check_block+check_branches+check_held+check_if+check_learnt+check_pair+check_query+check_stmt+check_transaction+check_while.Lts-check_query as check-query-lts
+use Rattle.flow.proofs.check.+check_block+check_branches+check_held+check_if+check_learnt+check_pair+check_query+check_stmt+check_transaction+check_while.Lts-check_query as check-query-lts
 use Rattle.flow.proofs.check.check_stmt.Reads as check-stmt
 use Rattle.flow.proofs.check.check_stmt.Kinds as check-stmt-kinds
-use Rattle.flow.proofs.check.+check_asked+check_block+check_branches+check_held+check_if+check_learnt+check_pair+check_query+check_stmt+check_transaction+check_while.Lts-check_stmt as check-stmt-lts
+use Rattle.flow.proofs.check.+check_block+check_branches+check_held+check_if+check_learnt+check_pair+check_query+check_stmt+check_transaction+check_while.Lts-check_stmt as check-stmt-lts
 use Rattle.flow.proofs.check.check_transaction.Reads as check-transaction
 use Rattle.flow.proofs.check.check_transaction.Kinds as check-transaction-kinds
-use Rattle.flow.proofs.check.+check_asked+check_block+check_branches+check_held+check_if+check_learnt+check_pair+check_query+check_stmt+check_transaction+check_while.Lts-check_transaction as check-transaction-lts
+use Rattle.flow.proofs.check.+check_block+check_branches+check_held+check_if+check_learnt+check_pair+check_query+check_stmt+check_transaction+check_while.Lts-check_transaction as check-transaction-lts
 use Rattle.flow.proofs.check.check_while.Reads as check-while
 use Rattle.flow.proofs.check.check_while.Kinds as check-while-kinds
-use Rattle.flow.proofs.check.+check_asked+check_block+check_branches+check_held+check_if+check_learnt+check_pair+check_query+check_stmt+check_transaction+check_while.Lts-check_while as check-while-lts
+use Rattle.flow.proofs.check.+check_block+check_branches+check_held+check_if+check_learnt+check_pair+check_query+check_stmt+check_transaction+check_while.Lts-check_while as check-while-lts
 use Rattle.flow.proofs.check.body_context.Reads as body-context-reads
 use Rattle.flow.proofs.check.check_assign.Reads as check-assign-reads
 use Rattle.flow.proofs.check.check_update.Reads as check-update-reads
@@ -57,15 +54,12 @@ use Rattle.gathered.proofs.positions.statement_at.Reads as statement-at-reads
 use Rattle.order.proofs.learn.learn.Reads as learn-reads
 use Rattle.policy.proofs.rows.roles_of.Reads as roles-of-reads
 use Rattle.shared.proofs.bytes.byte_at.Reads as byte-at-reads
-use Rattle.flow.proofs.check.+check_asked+check_block+check_branches+check_held+check_if+check_learnt+check_pair+check_query+check_stmt+check_transaction+check_while.{
+use Rattle.flow.proofs.check.+check_block+check_branches+check_held+check_if+check_learnt+check_pair+check_query+check_stmt+check_transaction+check_while.{
   statement,
 }
-use Rattle.flow.proofs.check.+check_asked+check_block+check_branches+check_held+check_if+check_learnt+check_pair+check_query+check_stmt+check_transaction+check_while.Tie.{
+use Rattle.flow.proofs.check.+check_block+check_branches+check_held+check_if+check_learnt+check_pair+check_query+check_stmt+check_transaction+check_while.Tie.{
   close,
 }
-
-abbrev μ-check-asked : Measures 3 check-asked-kinds.ps ℕ
-μ-check-asked κs a = 6 * a .1 .1 .1 .1 .0 + 5
 
 abbrev μ-check-block : Measures 3 check-block-kinds.ps ℕ
 μ-check-block κs a = 6 * a .1 .1 .1 .1 .0
@@ -96,14 +90,6 @@ abbrev μ-check-transaction : Measures 3 check-transaction-kinds.ps ℕ
 
 abbrev μ-check-while : Measures 3 check-while-kinds.ps ℕ
 μ-check-while κs a = 6 * a .1 .1 .1 .1 .0
-
-abbrev check-asked-at : ℕ → In 3 check-asked-kinds.ps
-check-asked-at t =
-    and 3 check-asked-kinds.ps (is 3 check-asked-kinds.ps μ-check-asked t) check-asked.Pre
-
-abbrev check-asked-below : ℕ → In 3 check-asked-kinds.ps
-check-asked-below t =
-    and 3 check-asked-kinds.ps (falls 3 check-asked-kinds.ps _<_ μ-check-asked t) check-asked.Pre
 
 abbrev check-block-at : ℕ → In 3 check-block-kinds.ps
 check-block-at t =
@@ -209,11 +195,10 @@ check-block-Inv-loop policy program table context depth at inner left₀ next₀
 abbrev check-block-μ-loop : check-block-lts.MeasureT-loop
 check-block-μ-loop policy program table context depth at inner left₀ next₀ left next = left
 
-pub +check-asked+check-block+check-branches+check-held+check-if+check-learnt+check-pair+check-query+check-stmt+check-transaction+check-while-spec :
+pub +check-block+check-branches+check-held+check-if+check-learnt+check-pair+check-query+check-stmt+check-transaction+check-while-spec :
     {M : Type 1} → statement M
-+check-asked+check-block+check-branches+check-held+check-if+check-learnt+check-pair+check-query+check-stmt+check-transaction+check-while-spec =
++check-block+check-branches+check-held+check-if+check-learnt+check-pair+check-query+check-stmt+check-transaction+check-while-spec =
     close
-    μ-check-asked
     μ-check-block
     μ-check-branches
     μ-check-held
@@ -224,28 +209,6 @@ pub +check-asked+check-block+check-branches+check-held+check-if+check-learnt+che
     μ-check-stmt
     μ-check-transaction
     μ-check-while
-    (λ t. check-asked-lts.spec (
-      is-idle-reads.Asked,
-      is-idle-reads.Learnt,
-      check-pair-below t,
-      check-pair.Post,
-      is-known-reads.Asked,
-      is-known-reads.Learnt,
-      check-branches-below t,
-      check-branches.Post,
-      check-learnt-below t,
-      check-learnt.Post,
-    )
-    (check-asked-at t)
-    check-asked.Post
-    (λ c κs. search needs)
-    (λ c κs. search needs)
-    (λ c. search (needs, asked-idle))
-    (λ c κs. search needs)
-    (λ c κs. search needs)
-    (λ c. search (needs, asked-known))
-    (λ c κs. search needs)
-    (λ c. search needs))
     (λ t. check-block-lts.spec (
       ahead-reads.Asked,
       ahead-reads.Learnt,
@@ -357,12 +320,14 @@ pub +check-asked+check-block+check-branches+check-held+check-if+check-learnt+che
       query-roles-reads.Learnt,
       with-named-reads.Asked,
       with-named-reads.Learnt,
-      is-known-reads.Asked,
-      is-known-reads.Learnt,
-      check-asked-below t,
-      check-asked.Post,
       is-idle-reads.Asked,
       is-idle-reads.Learnt,
+      check-pair-below t,
+      check-pair.Post,
+      is-known-reads.Asked,
+      is-known-reads.Learnt,
+      check-branches-below t,
+      check-branches.Post,
       check-learnt-below t,
       check-learnt.Post,
     )
@@ -375,11 +340,11 @@ pub +check-asked+check-block+check-branches+check-held+check-if+check-learnt+che
     (λ c κs. search needs)
     (λ c κs. search needs)
     (λ c κs. search needs)
-    (λ c κs. (search (needs, c .before .before .before .before .before .before .before .before .before .before .before .before .before .pre), search (needs, c .before .before .before .before .before .before .before .before .before .before .before .before .before .pre)))
-    (λ c. search (needs, query-listed))
+    (λ c κs. (search (needs, c .before .before .before .before .before .before .before .before .before .before .before .before .pre), search (needs, c .before .before .before .before .before .before .before .before .before .before .before .before .pre)))
+    (λ c. search (needs, query-idle))
     (λ c κs. search needs)
     (λ c κs. (search (needs, c .before .before .before .before .before .before .before .before .before .before .before .before .before .before .before .pre), search (needs, c .before .before .before .before .before .before .before .before .before .before .before .before .before .before .before .pre)))
-    (λ c. search (needs, query-listed))
+    (λ c. search (needs, query-known))
     (λ c κs. (search (needs, c .before .before .before .before .before .before .before .before .before .before .before .before .before .before .before .pre), search (needs, c .before .before .before .before .before .before .before .before .before .before .before .before .before .before .before .pre)))
     (λ c. search (needs, query-listed))
     (λ c. search (needs, query-unlisted))

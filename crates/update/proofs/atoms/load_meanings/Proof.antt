@@ -1,10 +1,10 @@
 use Rattle.update.proofs.AtomLaws.{fronts}
 use borrow.Author.Needs.{needs}
-use Rattle.update.proofs.atoms.refresh.Statement.{statement}
-use Rattle.update.proofs.atoms.refresh.Tie as tie
+use Rattle.update.proofs.atoms.load_meanings.Statement.{statement}
+use Rattle.update.proofs.atoms.load_meanings.Tie as tie
 
-pub refresh-spec : {M : Type 1} → statement M
-refresh-spec =
+pub load-meanings-spec : {M : Type 1} → statement M
+load-meanings-spec =
     tie.close
     (tie.spec
     (λ c κs. search (needs, fronts))

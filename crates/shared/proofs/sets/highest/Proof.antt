@@ -1,9 +1,9 @@
-use Rattle.policy.proofs.ReachLaws.{highest-room, highest-in}
+use Rattle.shared.proofs.SetLaws.{highest-room, highest-in}
 use lib.Count.{leading-le}
 use native.Mathlib.Omega.{arith}
 use borrow.Author.Needs.{needs}
-use Rattle.policy.proofs.meaning.highest.Statement.{statement}
-use Rattle.policy.proofs.meaning.highest.Tie as tie
+use Rattle.shared.proofs.sets.highest.Statement.{statement}
+use Rattle.shared.proofs.sets.highest.Tie as tie
 
 cast-result : tie.Need-cast-result
 cast-result c = record { fits = omega (arith, leading-le 64 (c .args .a)) }
