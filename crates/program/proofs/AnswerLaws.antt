@@ -1,29 +1,101 @@
--- What the answer of a reading says of readings that are made of it, whatever is read.
-use mathlib.Core.Path.{_≡_, refl, _∙_}
-use Prim.Native.Nat.{ℕ, zero, suc, _+_, _-_, _<_, _≤_}
+-- What a word says, and what the answer of a reading says of readings that are made of it, whatever is read.
+use mathlib.Core.Path.{_≡_, refl, sym, _∙_}
+use Prim.Native.Nat.{ℕ, zero, suc, _+_, _-_, _*_, _/_, _%_, _<_, _≤_}
 use mathlib.Core.List.{List, _∷_}
 use mathlib.Core.Bool.{Bool, true, false, cond}
 use native.Mathlib.Omega.{arith}
 use native.Mathlib.Numerals.{sub-one}
+use native.Mathlib.Decide.{decLt}
 use lib.ListN.{length}
 use borrow.Author.Tests.{lt-ltb, le-ltb}
 use Rattle.model.specs.Bytes.{byte}
 use Rattle.model.specs.Program.{Read as Reading, got, bad, andThen, readByte, readMany}
 use Rattle.program.specs.declared.answer.Answer.{Answer}
-use Rattle.program.specs.declared.answer.Answer.the-variants.{At, Refused}
-use Rattle.program.specs.Answer.{Reached, reached, stopped, reachedBy, endOf}
+use Rattle.program.specs.Answer.{Reached, reached, stopped, reachedBy, placeLimit, refusal, told, Within, endOf}
+
+-- a word below the limit tells a position, any other a number and its place
+module _ (w : ℕ) where
+  pub position-told : w < placeLimit → told w ≡ reached w
+  unfolding told
+  position-told h = simp (lt-ltb _ _ h)
+
+  pub refusal-told : placeLimit ≤ w → told w ≡ stopped (w / placeLimit) (w % placeLimit)
+  unfolding told
+  refusal-told h = simp (le-ltb _ _ h)
+
+-- a refusal with a number is no position, and keeps its number and its place
+module _ (k place : ℕ) (some : 0 < k) where
+  pub refusal-large : placeLimit ≤ refusal k place
+  unfolding refusal
+  refusal-large = omega arith
+
+  pub refusal-kept : place < placeLimit → told (refusal k place) ≡ stopped k place
+  unfolding refusal
+  refusal-kept h =
+      let number : (k * placeLimit + place % placeLimit) / placeLimit ≡ k = omega arith in
+      let rest : (k * placeLimit + place % placeLimit) % placeLimit ≡ place = omega arith in
+      refusal-told (k * placeLimit + place % placeLimit) (omega arith) ∙ rw (number, rest)
+
+-- a word that tells a position is it, and one that tells a refusal holds its number and its place
+module _ (w : ℕ) where
+  pub position-of : (p : ℕ) → told w ≡ reached p → (w < placeLimit) × (w ≡ p)
+  position-of p e = go (decLt w placeLimit)
+    where
+      go : Dec (w < placeLimit) → (w < placeLimit) × (w ≡ p)
+      go (yes h) = (h, cc (position-told w h))
+      go (no n) = let h : placeLimit ≤ w = omega arith in let z : _≡_ {A = ℕ} 0 1 = cc (refusal-told w h) in absurd (omega arith)
+
+  pub refusal-of : (k place : ℕ) → told w ≡ stopped k place → (placeLimit ≤ w) × (w / placeLimit ≡ k) × (w % placeLimit ≡ place)
+  refusal-of k place e = go (decLt w placeLimit)
+    where
+      go : Dec (w < placeLimit) → (placeLimit ≤ w) × (w / placeLimit ≡ k) × (w % placeLimit ≡ place)
+      go (yes h) = let z : _≡_ {A = ℕ} 0 1 = cc (position-told w h) in absurd (omega arith)
+      go (no n) = let h : placeLimit ≤ w = omega arith in (h, cc (refusal-told w h), cc (refusal-told w h))
+
+-- a law for each return of answer_of
+module _ (w : ℕ) where
+  pub answer-position : w < placeLimit → reached w ≡ told w
+  answer-position h = sym (position-told w h)
+
+  pub answer-refusal : (k place : ℕ) → placeLimit ≤ w → k ≡ w / placeLimit → place ≡ w % placeLimit → stopped k place ≡ told w
+  answer-refusal k place h e f = rw (e, f) (sym (refusal-told w h))
+
+pub ruleset answers = (answer-position, answer-refusal)
+
+-- an answer says what its word tells
+pub answer-told : (r : Answer) (w : ℕ) (x : Reached) → reachedBy r ≡ told w → told w ≡ x → reachedBy r ≡ x
+answer-told r w x e h = e ∙ h
+
+-- a reader's word tells what it came to
+pub tell-position : (w : ℕ) (r : Reached) → w < placeLimit → reached w ≡ r → told w ≡ r
+tell-position w r h e = position-told w h ∙ e
+
+pub tell-next : (s : List ℕ) (at : ℕ) (r : Reached) → Within s at → at < length s → reached (at + 1) ≡ r → told (at + 1) ≡ r
+tell-next s at r w l e = position-told (at + 1) (omega arith) ∙ e
+
+pub tell-refusal : (w k place : ℕ) (r : Reached) → w ≡ refusal k place → 0 < k → place < placeLimit → stopped k place ≡ r → told w ≡ r
+tell-refusal w k place r q some h e = rw q (refusal-kept k place some h ∙ e)
+
+pub ruleset tells = (tell-position, tell-next, tell-refusal)
 
 -- a reading that ended at n is followed by the next; a refusal is the answer of the whole
 module _ {A B : Type 0} where
-  pub then-at : (p : Reading A) (f : A → ℕ → Reading B) {a : Answer} {n : ℕ} {r : Reached} → reachedBy a ≡ endOf p → a ≡ At n → ((x : A) → r ≡ endOf (f x n)) → r ≡ endOf (andThen p f)
+  pub then-reached : (p : Reading A) (f : A → ℕ → Reading B) {n : ℕ} {r : Reached} → reached n ≡ endOf p → ((x : A) → r ≡ endOf (f x n)) → r ≡ endOf (andThen p f)
   unfolding endOf andThen
-  then-at (got x m) f {n = n} e h k = let w : reached n ≡ reached m = rw h at e in let q : m ≡ n = cc in rw q (k x)
-  then-at (bad b c) f {n = n} e h k = let w : reached n ≡ stopped b c = rw h at e in cc
+  then-reached (got x m) f {n = n} e k = let q : m ≡ n = cc in rw q (k x)
+  then-reached (bad b c) f e k = cc
 
-  pub then-refused : (p : Reading A) (f : A → ℕ → Reading B) {a : Answer} {b c : ℕ} → reachedBy a ≡ endOf p → a ≡ Refused b c → reachedBy a ≡ endOf (andThen p f)
+  pub then-stopped : (p : Reading A) (f : A → ℕ → Reading B) {b c : ℕ} → stopped b c ≡ endOf p → stopped b c ≡ endOf (andThen p f)
   unfolding endOf andThen
-  then-refused (got x m) f {b = b} {c = c} e h = let w : stopped b c ≡ reached m = rw h at e in cc
-  then-refused (bad k l) f e h = e
+  then-stopped (got x m) f e = cc
+  then-stopped (bad k l) f e = e
+
+  -- the same of words
+  pub then-at : (p : Reading A) (f : A → ℕ → Reading B) {w : ℕ} {r : Reached} → told w ≡ endOf p → w < placeLimit → ((x : A) → r ≡ endOf (f x w)) → r ≡ endOf (andThen p f)
+  then-at p f {w = w} e h k = then-reached p f (sym (position-told w h) ∙ e) k
+
+  pub then-refused : (p : Reading A) (f : A → ℕ → Reading B) {w : ℕ} → told w ≡ endOf p → placeLimit ≤ w → told w ≡ endOf (andThen p f)
+  then-refused p f {w = w} e h = refusal-told w h ∙ then-stopped p f (sym (refusal-told w h) ∙ e)
 
   pub then-last : (p : Reading A) (f : A → B) → endOf p ≡ endOf (andThen p (λ x n. got (f x) n))
   unfolding endOf andThen
@@ -64,15 +136,18 @@ module _ {A : Type 0} (sub : ℕ → Reading A) where
   many-done zero p r e h = e
   many-done (suc i) p r e h = absurd (omega arith)
 
-  pub many-more : (i p q : ℕ) (one : Answer) (r : Reached) → endOf (readMany sub i p) ≡ r → 0 < i → reachedBy one ≡ endOf (sub p) → one ≡ At q → endOf (readMany sub (i - 1) q) ≡ r
+  pub many-next : (i p q : ℕ) (r : Reached) → endOf (readMany sub i p) ≡ r → 0 < i → reached q ≡ endOf (sub p) → endOf (readMany sub (i - 1) q) ≡ r
   unfolding readMany
-  many-more zero p q one r e h a b = absurd (omega arith)
-  many-more (suc i) p q one r e h a b =
-      rw sub-one (then-at (sub p) (λ x mid. andThen (readMany sub i mid) (λ xs end. got (x ∷ xs) end)) a b (λ x. then-last (readMany sub i q) (λ xs. x ∷ xs)) ∙ e)
+  many-next zero p q r e h a = absurd (omega arith)
+  many-next (suc i) p q r e h a =
+      rw sub-one (then-reached (sub p) (λ x mid. andThen (readMany sub i mid) (λ xs end. got (x ∷ xs) end)) a (λ x. then-last (readMany sub i q) (λ xs. x ∷ xs)) ∙ e)
 
-  pub many-refused : (i p b c : ℕ) (one : Answer) (r : Reached) → endOf (readMany sub i p) ≡ r → 0 < i → reachedBy one ≡ endOf (sub p) → one ≡ Refused b c → reachedBy one ≡ r
+  pub many-more : (i p w : ℕ) (r : Reached) → endOf (readMany sub i p) ≡ r → 0 < i → told w ≡ endOf (sub p) → w < placeLimit → endOf (readMany sub (i - 1) w) ≡ r
+  many-more i p w r e h a b = many-next i p w r e h (sym (position-told w b) ∙ a)
+
+  pub many-refused : (i p w : ℕ) (r : Reached) → endOf (readMany sub i p) ≡ r → 0 < i → told w ≡ endOf (sub p) → placeLimit ≤ w → told w ≡ r
   unfolding readMany
-  many-refused zero p b c one r e h a d = absurd (omega arith)
-  many-refused (suc i) p b c one r e h a d = then-refused (sub p) _ a d ∙ e
+  many-refused zero p w r e h a d = absurd (omega arith)
+  many-refused (suc i) p w r e h a d = then-refused (sub p) _ a d ∙ e
 
-pub ruleset many = (many-done, many-more, many-refused)
+pub ruleset many = (many-done, many-more, many-refused, tells)

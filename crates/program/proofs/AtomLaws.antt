@@ -14,8 +14,6 @@ use Rattle.model.specs.Mutation.{Mutation, addMember, deleteMember, addTaken, d
 use Rattle.model.specs.Syntax.{Atom as ModelAtom, atomByte}
 use Rattle.model.specs.Fits.{AtomFits}
 use Rattle.model.specs.Program.{Read as Reading, got, bad, readBelow, atomAt, readAtom, readLabel, readQuery, mutationAt, readMutation}
-use Rattle.program.specs.declared.answer.Answer.{Answer}
-use Rattle.program.specs.declared.answer.Answer.the-variants.{At, Refused}
 use Rattle.program.specs.declared.codes.Atom.{Atom}
 use Rattle.program.specs.declared.codes.Atom.the-variants.{Role, Viewers, Trusters, Everyone}
 use Rattle.program.specs.declared.codes.AtomOf.{AtomOf}
@@ -24,10 +22,10 @@ use Rattle.program.specs.declared.codes.Kind.{Kind}
 use Rattle.program.specs.declared.codes.Kind.the-variants.{AddMember, DeleteMember, AddTaken, DeleteTaken}
 use Rattle.program.specs.declared.codes.KindOf.{KindOf}
 use Rattle.program.specs.declared.codes.KindOf.the-variants as kind
-use Rattle.program.specs.Answer.{reached, stopped, reachedBy, endOf}
+use Rattle.program.specs.Answer.{reached, stopped, placeLimit, told, endOf}
 use Rattle.program.specs.Codes.{atomOf, modelAtom, roleBelow, kindOf, modelKind, operandBound}
 use Rattle.program.proofs.CodeLaws.{through, atom-byte, atom-fits, none-high, none-everyone}
-use Rattle.program.proofs.AnswerLaws.{then-at, then-refused, then-last, byte-there, byte-missing}
+use Rattle.program.proofs.AnswerLaws.{tells, then-at, then-refused, then-last, byte-there, byte-missing}
 
 -- a byte below a bound
 module _ (s : List ℕ) (bound at : ℕ) where
@@ -47,7 +45,7 @@ module _ (s : List ℕ) (bound at : ℕ) where
   unfolding endOf
   below-small l h = rw (below-read l h)
 
-pub ruleset belows = (below-missing, below-large, below-small)
+pub ruleset belows = (below-missing, below-large, below-small, tells)
 
 -- a label: the byte of the atom that was read is a role below R, or everyone's, or neither
 module _ (s : List ℕ) (R at : ℕ) where
@@ -98,7 +96,7 @@ module _ (s : List ℕ) (R at : ℕ) where
             let x : 0xff ≡ byte s at = rw g at here-byte in
             let y : R ≤ byte s at = omega arith in rw (byte-there s at _ l) (simp (le-ltb _ _ y, eq-eqb _ _ (sym x)))
 
-pub ruleset labels = (label-missing, label-none, label-role, label-large, label-viewers, label-trusters, label-everyone)
+pub ruleset labels = (label-missing, label-none, label-role, label-large, label-viewers, label-trusters, label-everyone, tells)
 
 -- an atom: the definition goes by what the byte stands for
 named : ℕ → ℕ → ℕ → AtomOf → Reading ModelAtom
@@ -135,17 +133,17 @@ module _ (s : List ℕ) (R at : ℕ) where
       unfolding endOf named
       atom-large t = rw (here, h, ← d, t)
 
-pub ruleset atoms = (atom-missing, atom-none, atom-read, atom-large)
+pub ruleset atoms = (atom-missing, atom-none, atom-read, atom-large, tells)
 
 -- a query
-module _ (s : List ℕ) (R at : ℕ) (a : Answer) (e : reachedBy a ≡ endOf (readAtom s R at)) where
-  pub query-first : (b c : ℕ) → a ≡ Refused b c → reachedBy a ≡ endOf (readQuery s R at)
+module _ (s : List ℕ) (R at a : ℕ) (e : told a ≡ endOf (readAtom s R at)) where
+  pub query-first : placeLimit ≤ a → told a ≡ endOf (readQuery s R at)
   unfolding readQuery
-  query-first b c h = then-refused (readAtom s R at) _ e h
+  query-first h = then-refused (readAtom s R at) _ e h
 
-  pub query-second : (mid : ℕ) (r : Answer) → a ≡ At mid → reachedBy r ≡ endOf (readAtom s R mid) → reachedBy r ≡ endOf (readQuery s R at)
+  pub query-second : (r : ℕ) → a < placeLimit → told r ≡ endOf (readAtom s R a) → told r ≡ endOf (readQuery s R at)
   unfolding readQuery
-  query-second mid r h g = then-at (readAtom s R at) _ e h (λ x. g ∙ then-last (readAtom s R mid) _)
+  query-second r h g = then-at (readAtom s R at) _ e h (λ x. g ∙ then-last (readAtom s R a) _)
 
 pub ruleset queries = (query-first, query-second)
 
@@ -178,14 +176,14 @@ module _ (s : List ℕ) (P R at : ℕ) where
     unfolding endOf kinded
     mutation-unknown h = rw (there, h)
 
-    module _ (m : Kind) (h : k ≡ kind.Is m) (a : Answer) (i : reachedBy a ≡ endOf (readBelow s R (at + 1))) where
-      pub mutation-role : (b c : ℕ) → a ≡ Refused b c → reachedBy a ≡ endOf (readMutation s P R at)
+    module _ (m : Kind) (h : k ≡ kind.Is m) (a : ℕ) (i : told a ≡ endOf (readBelow s R (at + 1))) where
+      pub mutation-role : placeLimit ≤ a → told a ≡ endOf (readMutation s P R at)
       unfolding kinded mutationAt
-      mutation-role b c g = rw (there, h) (then-refused (readBelow s R (at + 1)) _ i g)
+      mutation-role g = rw (there, h) (then-refused (readBelow s R (at + 1)) _ i g)
 
-      pub mutation-operand : (mid n : ℕ) (r : Answer) → a ≡ At mid → n ≡ operandBound P R m → reachedBy r ≡ endOf (readBelow s n mid) → reachedBy r ≡ endOf (readMutation s P R at)
+      pub mutation-operand : (n r : ℕ) → a < placeLimit → n ≡ operandBound P R m → told r ≡ endOf (readBelow s n a) → told r ≡ endOf (readMutation s P R at)
       unfolding kinded mutationAt
-      mutation-operand mid n r g o j =
-          rw (there, h) (then-at (readBelow s R (at + 1)) _ i g (λ x. rw o at j ∙ then-last (readBelow s (operandBound P R m) mid) _))
+      mutation-operand n r g o j =
+          rw (there, h) (then-at (readBelow s R (at + 1)) _ i g (λ x. rw o at j ∙ then-last (readBelow s (operandBound P R m) a) _))
 
-pub ruleset mutations = (mutation-missing, mutation-unknown, mutation-role, mutation-operand)
+pub ruleset mutations = (mutation-missing, mutation-unknown, mutation-role, mutation-operand, tells)

@@ -12,18 +12,16 @@ use Rattle.model.specs.Number.{programLength, programCode}
 use Rattle.model.specs.Bytes.{byte, word}
 use Rattle.model.specs.Syntax.{Expr, constant, variable, binary}
 use Rattle.model.specs.Program.{Read as Reading, got, bad, andThen, readByte, readBelow, binaryAt, exprAt, readExpr}
-use Rattle.program.specs.declared.answer.Answer.{Answer}
-use Rattle.program.specs.declared.answer.Answer.the-variants.{At, Refused}
 use Rattle.program.specs.declared.codes.Operator.{Operator}
 use Rattle.program.specs.declared.codes.Operator.the-variants.{Sum, Difference, Product, Quotient, Less, Equal}
 use Rattle.program.specs.declared.codes.Expression.{Expression}
 use Rattle.program.specs.declared.codes.Expression.the-variants.{Constant, Variable, Binary}
 use Rattle.program.specs.declared.codes.ExpressionOf.{ExpressionOf}
 use Rattle.program.specs.declared.codes.ExpressionOf.the-variants.{Is, No}
-use Rattle.program.specs.Answer.{reached, stopped, reachedBy, endOf}
+use Rattle.program.specs.Answer.{stopped, placeLimit, told, Within, endOf}
 use Rattle.program.specs.Codes.{expressionOf, modelOperator}
 use Rattle.program.proofs.CodeLaws.{through}
-use Rattle.program.proofs.AnswerLaws.{then-at, then-refused, then-last, byte-there, byte-missing}
+use Rattle.program.proofs.AnswerLaws.{position-told, tells, then-at, then-refused, then-last, byte-there, byte-missing}
 
 constantAt : List ℕ → ℕ → Reading Expr
 constantAt s next = cond (leb (next + 4) (length s)) (got (constant (word s next 4)) (next + 4)) (bad programLength (length s))
@@ -67,22 +65,24 @@ module _ (s : List ℕ) (v d at : ℕ) (f : d ≡ 0 → ⊥) where
       unfolding coded constantAt endOf
       constant-missing g i = let j : length s < at + 1 + 4 = omega arith in rw (here, h, g) (simp (lt-leb _ _ j))
 
-      pub constant-read : x ≡ Constant → 4 ≤ length s - (at + 1) → reached (at + 1 + 4) ≡ endOf (readExpr s v d at)
+      pub constant-read : Within s at → x ≡ Constant → 4 ≤ length s - (at + 1) → told (at + 1 + 4) ≡ endOf (readExpr s v d at)
       unfolding coded constantAt endOf
-      constant-read g i = let j : at + 1 + 4 ≤ length s = omega arith in rw (here, h, g) (simp (le-leb _ _ j))
+      constant-read w g i =
+          let j : at + 1 + 4 ≤ length s = omega arith in
+          position-told (at + 1 + 4) (omega arith) ∙ (rw (here, h, g) (simp (le-leb _ _ j)))
 
-      pub variable-read : (r : Answer) → x ≡ Variable → reachedBy r ≡ endOf (readBelow s v (at + 1)) → reachedBy r ≡ endOf (readExpr s v d at)
+      pub variable-read : (r : ℕ) → x ≡ Variable → told r ≡ endOf (readBelow s v (at + 1)) → told r ≡ endOf (readExpr s v d at)
       unfolding coded
       variable-read r g i = rw (here, h, g) (i ∙ then-last (readBelow s v (at + 1)) variable)
 
-      module _ (o : Operator) (g : x ≡ Binary o) (a : Answer) (i : reachedBy a ≡ endOf (readExpr s v (d - 1) (at + 1))) where
-        pub binary-first : (b c : ℕ) → a ≡ Refused b c → reachedBy a ≡ endOf (readExpr s v d at)
+      module _ (o : Operator) (g : x ≡ Binary o) (a : ℕ) (i : told a ≡ endOf (readExpr s v (d - 1) (at + 1))) where
+        pub binary-first : placeLimit ≤ a → told a ≡ endOf (readExpr s v d at)
         unfolding coded binaryAt
-        binary-first b c j = rw (here, h, g) (then-refused (readExpr s v (d - 1) (at + 1)) _ i j)
+        binary-first j = rw (here, h, g) (then-refused (readExpr s v (d - 1) (at + 1)) _ i j)
 
-        pub binary-second : (mid : ℕ) (r : Answer) → a ≡ At mid → reachedBy r ≡ endOf (readExpr s v (d - 1) mid) → reachedBy r ≡ endOf (readExpr s v d at)
+        pub binary-second : (r : ℕ) → a < placeLimit → told r ≡ endOf (readExpr s v (d - 1) a) → told r ≡ endOf (readExpr s v d at)
         unfolding coded binaryAt
-        binary-second mid r j m =
-            rw (here, h, g) (then-at (readExpr s v (d - 1) (at + 1)) _ i j (λ y. m ∙ then-last (readExpr s v (d - 1) mid) (binary (modelOperator o) y)))
+        binary-second r j m =
+            rw (here, h, g) (then-at (readExpr s v (d - 1) (at + 1)) _ i j (λ y. m ∙ then-last (readExpr s v (d - 1) a) (binary (modelOperator o) y)))
 
-pub ruleset expressions = (expr-deep, expr-missing, expr-unknown, constant-missing, constant-read, variable-read, binary-first, binary-second)
+pub ruleset expressions = (expr-deep, expr-missing, expr-unknown, constant-missing, constant-read, variable-read, binary-first, binary-second, tells)

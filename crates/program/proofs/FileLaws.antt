@@ -16,10 +16,8 @@ use Rattle.model.specs.Number.{programMark}
 use Rattle.model.specs.Bytes.{byte}
 use Rattle.model.specs.Program.{bad, andThen, readBelow, readMark, readMany, readLabel, readStmt, readBody, readProgram, programHead}
 use Rattle.shared.specs.Marks.{matching}
-use Rattle.program.specs.declared.answer.Answer.{Answer}
-use Rattle.program.specs.declared.answer.Answer.the-variants.{At, Refused}
-use Rattle.program.specs.Answer.{Reached, reached, stopped, reachedBy, endOf, readVariables}
-use Rattle.program.proofs.AnswerLaws.{then-at, then-refused, byte-there, byte-missing}
+use Rattle.program.specs.Answer.{Reached, reached, stopped, placeLimit, refusal, told, endOf, readVariables}
+use Rattle.program.proofs.AnswerLaws.{position-told, tell-refusal, answer-told, tells, then-at, then-refused, then-stopped, byte-there, byte-missing}
 use Rattle.program.proofs.AtomLaws.{below-missing, below-large, below-read}
 
 -- a mark, of which the bytes match the first k: read whole, or stopped at the first byte that is missing or differs
@@ -57,59 +55,59 @@ module _ (s m : List ℕ) (k : ℕ) (e : k ≡ matching s m) where
   there : markEnd (length s) (length m) 0 k ≡ endOf (readMark s m 0)
   there = rw e (sym (mark-end s m 0 (omega arith)))
 
-  pub mark-read : k ≡ length m → reached k ≡ endOf (readMark s m 0)
+  pub mark-read : length m < placeLimit → k ≡ length m → told k ≡ endOf (readMark s m 0)
   unfolding markEnd
-  mark-read h = simp (eq-eqb _ _ h, zero-add) at there
+  mark-read l h = position-told k (omega arith) ∙ (simp (eq-eqb _ _ h, zero-add) at there)
 
   module _ (n : k ≡ length m → ⊥) where
     pub mark-missing : length s ≤ k → stopped 10 (length s) ≡ endOf (readMark s m 0)
     unfolding markEnd
     mark-missing h = simp (ne-eqb _ _ n, zero-add, le-leb _ _ h) at there
 
-    pub mark-differs : k < length s → stopped 11 k ≡ endOf (readMark s m 0)
+    pub mark-differs : (w : ℕ) → length s < placeLimit → w ≡ refusal 11 k → k < length s → told w ≡ endOf (readMark s m 0)
     unfolding markEnd
-    mark-differs h = simp (ne-eqb _ _ n, zero-add, lt-leb _ _ h) at there
+    mark-differs w l e h = tell-refusal w 11 k _ e (omega arith) (omega arith) (simp (ne-eqb _ _ n, zero-add, lt-leb _ _ h) at there)
 
-pub ruleset marks = (mark-read, mark-missing, mark-differs)
+pub ruleset marks = (mark-read, mark-missing, mark-differs, tells)
 
 -- the body
-module _ (s : List ℕ) (P R v at : ℕ) (a : Answer) (e : reachedBy a ≡ endOf (readStmt s P R v statementDepth at)) where
-  pub body-refused : (b c : ℕ) → a ≡ Refused b c → reachedBy a ≡ endOf (readBody s P R v at)
+module _ (s : List ℕ) (P R v at a : ℕ) (e : told a ≡ endOf (readStmt s P R v statementDepth at)) where
+  pub body-refused : placeLimit ≤ a → told a ≡ endOf (readBody s P R v at)
   unfolding readBody
-  body-refused b c h = then-refused (readStmt s P R v statementDepth at) _ e h
+  body-refused h = then-refused (readStmt s P R v statementDepth at) _ e h
 
-  module _ (end : ℕ) (h : a ≡ At end) where
-    pub body-more : (end ≡ length s → ⊥) → stopped 10 end ≡ endOf (readBody s P R v at)
+  module _ (h : a < placeLimit) where
+    pub body-more : (a ≡ length s → ⊥) → stopped 10 a ≡ endOf (readBody s P R v at)
     unfolding readBody endOf
     body-more n = then-at (readStmt s P R v statementDepth at) _ e h (λ x. simp (ne-eqb _ _ n))
 
-    pub body-read : end ≡ length s → reached end ≡ endOf (readBody s P R v at)
+    pub body-read : a ≡ length s → reached a ≡ endOf (readBody s P R v at)
     unfolding readBody endOf
     body-read n = then-at (readStmt s P R v statementDepth at) _ e h (λ x. simp (eq-eqb _ _ n))
 
-pub ruleset bodies = (body-refused, body-more, body-read)
+pub ruleset bodies = (body-refused, body-more, body-read, tells)
 
 -- V and the labels
 module _ (s : List ℕ) (P R at : ℕ) where
   pub variables-missing : length s ≤ at → stopped 10 (length s) ≡ endOf (readVariables s P R at)
   unfolding readVariables
-  variables-missing h = then-refused (readBelow s 65 at) _ {a = Refused 10 (length s)} (below-missing s 65 at h) refl
+  variables-missing h = then-stopped (readBelow s 65 at) _ (below-missing s 65 at h)
 
   module _ (l : at < length s) where
     pub variables-many : variableLimit < byte s at → stopped 13 at ≡ endOf (readVariables s P R at)
     unfolding readVariables
-    variables-many h = then-refused (readBelow s 65 at) _ {a = Refused 13 at} (below-large s 65 at l (omega arith)) refl
+    variables-many h = then-stopped (readBelow s 65 at) _ (below-large s 65 at l (omega arith))
 
-    module _ (n : byte s at ≤ variableLimit) (a : Answer) (e : reachedBy a ≡ endOf (readMany (readLabel s R) (2 * byte s at) (at + 1))) where
-      pub variables-labels : (b c : ℕ) → a ≡ Refused b c → reachedBy a ≡ endOf (readVariables s P R at)
+    module _ (n : byte s at ≤ variableLimit) (a : ℕ) (e : told a ≡ endOf (readMany (readLabel s R) (2 * byte s at) (at + 1))) where
+      pub variables-labels : placeLimit ≤ a → told a ≡ endOf (readVariables s P R at)
       unfolding readVariables andThen
-      variables-labels b c h = rw (below-read s 65 at l (omega arith)) (then-refused (readMany (readLabel s R) (2 * byte s at) (at + 1)) _ e h)
+      variables-labels h = rw (below-read s 65 at l (omega arith)) (then-refused (readMany (readLabel s R) (2 * byte s at) (at + 1)) _ e h)
 
-      pub variables-body : (p : ℕ) (r : Answer) → a ≡ At p → reachedBy r ≡ endOf (readBody s P R (byte s at) p) → reachedBy r ≡ endOf (readVariables s P R at)
+      pub variables-body : (r : ℕ) → a < placeLimit → told r ≡ endOf (readBody s P R (byte s at) a) → told r ≡ endOf (readVariables s P R at)
       unfolding readVariables andThen
-      variables-body p r h g = rw (below-read s 65 at l (omega arith)) (then-at (readMany (readLabel s R) (2 * byte s at) (at + 1)) _ e h (λ x. g))
+      variables-body r h g = rw (below-read s 65 at l (omega arith)) (then-at (readMany (readLabel s R) (2 * byte s at) (at + 1)) _ e h (λ x. g))
 
-pub ruleset variables = (variables-missing, variables-many, variables-labels, variables-body)
+pub ruleset variables = (variables-missing, variables-many, variables-labels, variables-body, tells)
 
 -- the whole program
 module _ (s : List ℕ) (P R : ℕ) where
@@ -117,13 +115,13 @@ module _ (s : List ℕ) (P R : ℕ) where
   unfolding readProgram endOf
   program-long h = simp (lt-leb _ _ h)
 
-  module _ (l : length s ≤ programBytes) (a : Answer) (e : reachedBy a ≡ endOf (readMark s programHead 0)) where
-    pub program-mark : (b c : ℕ) → a ≡ Refused b c → reachedBy a ≡ endOf (readProgram s P R)
+  module _ (l : length s ≤ programBytes) (a : ℕ) (e : told a ≡ endOf (readMark s programHead 0)) where
+    pub program-mark : placeLimit ≤ a → told a ≡ endOf (readProgram s P R)
     unfolding readProgram
-    program-mark b c h = simp (le-leb _ _ l) (then-refused (readMark s programHead 0) _ e h)
+    program-mark h = simp (le-leb _ _ l) (then-refused (readMark s programHead 0) _ e h)
 
-    pub program-rest : (p : ℕ) (r : Answer) → a ≡ At p → reachedBy r ≡ endOf (readVariables s P R p) → reachedBy r ≡ endOf (readProgram s P R)
+    pub program-rest : (r : ℕ) → a < placeLimit → told r ≡ endOf (readVariables s P R a) → told r ≡ endOf (readProgram s P R)
     unfolding readProgram readVariables
-    program-rest p r h g = simp (le-leb _ _ l) (then-at (readMark s programHead 0) _ e h (λ x. g))
+    program-rest r h g = simp (le-leb _ _ l) (then-at (readMark s programHead 0) _ e h (λ x. g))
 
-pub ruleset programs = (program-long, program-mark, program-rest)
+pub ruleset programs = (program-long, program-mark, program-rest, answer-told)

@@ -1,5 +1,5 @@
 pub mod CodeLaws
-mod AnswerLaws
+pub mod AnswerLaws
 mod AtomLaws
 mod EntryLaws
 mod ExpressionLaws

@@ -13,26 +13,24 @@ use Rattle.model.specs.Number.{programCode}
 use Rattle.model.specs.Bytes.{byte}
 use Rattle.model.specs.Syntax.{Stmt, skip, if, while, query, transaction}
 use Rattle.model.specs.Program.{Read as Reading, got, bad, andThen, readByte, readBelow, readMany, readExpr, readQuery, readMutation, blockOf, assignAt, blockAt, ifAt, whileAt, queryAt, updateAt, transactionAt, stmtAt, readStmt}
-use Rattle.program.specs.declared.answer.Answer.{Answer}
-use Rattle.program.specs.declared.answer.Answer.the-variants.{At, Refused}
 use Rattle.program.specs.declared.codes.Statement.{Statement}
 use Rattle.program.specs.declared.codes.Statement.the-variants.{Skip, Assign, Block, If, While, Query, Update, Transaction}
 use Rattle.program.specs.declared.codes.StatementOf.{StatementOf}
 use Rattle.program.specs.declared.codes.StatementOf.the-variants.{Is, No}
-use Rattle.program.specs.Answer.{Reached, reached, stopped, reachedBy, endOf, readAssign, readUpdate, FindsSkip}
+use Rattle.program.specs.Answer.{Reached, reached, stopped, placeLimit, told, endOf, readAssign, readUpdate, FindsSkip}
 use Rattle.program.specs.Codes.{statementOf}
 use Rattle.program.proofs.CodeLaws.{through}
-use Rattle.program.proofs.AnswerLaws.{then-at, then-refused, then-last, then-end, then-same, pick-same, byte-there, byte-missing, many, many-more}
+use Rattle.program.proofs.AnswerLaws.{tells, then-at, then-refused, then-last, then-end, then-same, pick-same, byte-there, byte-missing, many, many-next}
 
 -- an assignment
-module _ (s : List ℕ) (v at : ℕ) (a : Answer) (e : reachedBy a ≡ endOf (readBelow s v at)) where
-  pub assign-target : (b c : ℕ) → a ≡ Refused b c → reachedBy a ≡ endOf (readAssign s v at)
+module _ (s : List ℕ) (v at a : ℕ) (e : told a ≡ endOf (readBelow s v at)) where
+  pub assign-target : placeLimit ≤ a → told a ≡ endOf (readAssign s v at)
   unfolding readAssign
-  assign-target b c h = then-refused (readBelow s v at) _ e h
+  assign-target h = then-refused (readBelow s v at) _ e h
 
-  pub assign-value : (mid : ℕ) (r : Answer) → a ≡ At mid → reachedBy r ≡ endOf (readExpr s v expressionDepth mid) → reachedBy r ≡ endOf (readAssign s v at)
+  pub assign-value : (r : ℕ) → a < placeLimit → told r ≡ endOf (readExpr s v expressionDepth a) → told r ≡ endOf (readAssign s v at)
   unfolding readAssign
-  assign-value mid r h g = then-at (readBelow s v at) _ e h (λ x. g)
+  assign-value r h g = then-at (readBelow s v at) _ e h (λ x. g)
 
 pub ruleset assigns = (assign-target, assign-value)
 
@@ -52,13 +50,13 @@ module _ (s : List ℕ) (P R at : ℕ) where
       unfolding readUpdate endOf
       update-many h = let g : 0 < byte s at = omega arith in rw (byte-there s at _ l) (simp (lt-ltb _ _ g, lt-leb _ _ h))
 
-      pub update-read : (r : Answer) → byte s at ≤ listLimit → reachedBy r ≡ endOf (readMany (readMutation s P R) (byte s at) (at + 1)) → reachedBy r ≡ endOf (readUpdate s P R at)
+      pub update-read : (r : ℕ) → byte s at ≤ listLimit → told r ≡ endOf (readMany (readMutation s P R) (byte s at) (at + 1)) → told r ≡ endOf (readUpdate s P R at)
       unfolding readUpdate
       update-read r h e =
           let g : (byte s at ≡ 0 → ⊥) → 0 < byte s at = λ m. omega arith in
           rw (byte-there s at _ l) (simp (lt-ltb _ _ (g n), le-leb _ _ h) e)
 
-pub ruleset updates = (update-missing, update-none, update-many, update-read)
+pub ruleset updates = (update-missing, update-none, update-many, update-read, tells)
 
 module _ (s : List ℕ) (P R v : ℕ) (sub : ℕ → Reading Stmt) where
   -- a block: its loop begins with all its statements left
@@ -71,44 +69,44 @@ module _ (s : List ℕ) (P R v : ℕ) (sub : ℕ → Reading Stmt) where
   block-begins at l = rw (byte-there s at _ l) (then-last (readMany sub (byte s at) (at + 1)) blockOf)
 
   -- an if and a while: the test, then what they hold
-  module _ (at : ℕ) (t : Answer) (e : reachedBy t ≡ endOf (readExpr s v expressionDepth at)) where
-    pub if-test : (b c : ℕ) → t ≡ Refused b c → reachedBy t ≡ endOf (ifAt s P R v sub at)
+  module _ (at t : ℕ) (e : told t ≡ endOf (readExpr s v expressionDepth at)) where
+    pub if-test : placeLimit ≤ t → told t ≡ endOf (ifAt s P R v sub at)
     unfolding ifAt
-    if-test b c h = then-refused (readExpr s v expressionDepth at) _ e h
+    if-test h = then-refused (readExpr s v expressionDepth at) _ e h
 
-    pub while-test : (b c : ℕ) → t ≡ Refused b c → reachedBy t ≡ endOf (whileAt s P R v sub at)
+    pub while-test : placeLimit ≤ t → told t ≡ endOf (whileAt s P R v sub at)
     unfolding whileAt
-    while-test b c h = then-refused (readExpr s v expressionDepth at) _ e h
+    while-test h = then-refused (readExpr s v expressionDepth at) _ e h
 
-    module _ (p : ℕ) (h : t ≡ At p) (a : Answer) (g : reachedBy a ≡ endOf (sub p)) where
-      pub while-body : reachedBy a ≡ endOf (whileAt s P R v sub at)
+    module _ (h : t < placeLimit) (a : ℕ) (g : told a ≡ endOf (sub t)) where
+      pub while-body : told a ≡ endOf (whileAt s P R v sub at)
       unfolding whileAt
-      while-body = then-at (readExpr s v expressionDepth at) _ e h (λ x. g ∙ then-last (sub p) (while x))
+      while-body = then-at (readExpr s v expressionDepth at) _ e h (λ x. g ∙ then-last (sub t) (while x))
 
-      pub if-first : (b c : ℕ) → a ≡ Refused b c → reachedBy a ≡ endOf (ifAt s P R v sub at)
+      pub if-first : placeLimit ≤ a → told a ≡ endOf (ifAt s P R v sub at)
       unfolding ifAt
-      if-first b c i = then-at (readExpr s v expressionDepth at) _ e h (λ x. then-refused (sub p) _ g i)
+      if-first i = then-at (readExpr s v expressionDepth at) _ e h (λ x. then-refused (sub t) _ g i)
 
-      pub if-second : (q : ℕ) (r : Answer) → a ≡ At q → reachedBy r ≡ endOf (sub q) → reachedBy r ≡ endOf (ifAt s P R v sub at)
+      pub if-second : (r : ℕ) → a < placeLimit → told r ≡ endOf (sub a) → told r ≡ endOf (ifAt s P R v sub at)
       unfolding ifAt
-      if-second q r i j =
-          then-at (readExpr s v expressionDepth at) _ e h (λ x. then-at (sub p) _ g i (λ y. j ∙ then-last (sub q) (if x y)))
+      if-second r i j =
+          then-at (readExpr s v expressionDepth at) _ e h (λ x. then-at (sub t) _ g i (λ y. j ∙ then-last (sub a) (if x y)))
 
   -- a query: its atoms, then what it holds
-  module _ (place at : ℕ) (t : Answer) (e : reachedBy t ≡ endOf (readQuery s R at)) where
-    pub query-atoms : (b c : ℕ) → t ≡ Refused b c → reachedBy t ≡ endOf (queryAt s P R v sub place at)
+  module _ (place at t : ℕ) (e : told t ≡ endOf (readQuery s R at)) where
+    pub query-atoms : placeLimit ≤ t → told t ≡ endOf (queryAt s P R v sub place at)
     unfolding queryAt
-    query-atoms b c h = then-refused (readQuery s R at) _ e h
+    query-atoms h = then-refused (readQuery s R at) _ e h
 
-    module _ (p : ℕ) (h : t ≡ At p) (a : Answer) (g : reachedBy a ≡ endOf (sub p)) where
-      pub query-first : (b c : ℕ) → a ≡ Refused b c → reachedBy a ≡ endOf (queryAt s P R v sub place at)
+    module _ (h : t < placeLimit) (a : ℕ) (g : told a ≡ endOf (sub t)) where
+      pub query-first : placeLimit ≤ a → told a ≡ endOf (queryAt s P R v sub place at)
       unfolding queryAt
-      query-first b c i = then-at (readQuery s R at) _ e h (λ x. then-refused (sub p) _ g i)
+      query-first i = then-at (readQuery s R at) _ e h (λ x. then-refused (sub t) _ g i)
 
-      pub query-second : (q : ℕ) (r : Answer) → a ≡ At q → reachedBy r ≡ endOf (sub q) → reachedBy r ≡ endOf (queryAt s P R v sub place at)
+      pub query-second : (r : ℕ) → a < placeLimit → told r ≡ endOf (sub a) → told r ≡ endOf (queryAt s P R v sub place at)
       unfolding queryAt
-      query-second q r i j =
-          then-at (readQuery s R at) _ e h (λ x. then-at (sub p) _ g i (λ y. j ∙ then-last (sub q) (query place x y)))
+      query-second r i j =
+          then-at (readQuery s R at) _ e h (λ x. then-at (sub t) _ g i (λ y. j ∙ then-last (sub a) (query place x y)))
 
   -- a transaction: n, its list, its body
   module _ (place at : ℕ) where
@@ -121,17 +119,17 @@ module _ (s : List ℕ) (P R v : ℕ) (sub : ℕ → Reading Stmt) where
       unfolding transactionAt endOf
       transaction-many h = rw (byte-there s at _ l) (simp (lt-leb _ _ h))
 
-      module _ (n : byte s at ≤ listLimit) (t : Answer) (e : reachedBy t ≡ endOf (readMany (readQuery s R) (byte s at) (at + 1))) where
-        pub transaction-list : (b c : ℕ) → t ≡ Refused b c → reachedBy t ≡ endOf (transactionAt s P R v sub place at)
+      module _ (n : byte s at ≤ listLimit) (t : ℕ) (e : told t ≡ endOf (readMany (readQuery s R) (byte s at) (at + 1))) where
+        pub transaction-list : placeLimit ≤ t → told t ≡ endOf (transactionAt s P R v sub place at)
         unfolding transactionAt
-        transaction-list b c h =
+        transaction-list h =
             rw (byte-there s at _ l) (simp (le-leb _ _ n) (then-refused (readMany (readQuery s R) (byte s at) (at + 1)) _ e h))
 
-        pub transaction-body : (p : ℕ) (r : Answer) → t ≡ At p → reachedBy r ≡ endOf (sub p) → reachedBy r ≡ endOf (transactionAt s P R v sub place at)
+        pub transaction-body : (r : ℕ) → t < placeLimit → told r ≡ endOf (sub t) → told r ≡ endOf (transactionAt s P R v sub place at)
         unfolding transactionAt
-        transaction-body p r h g =
+        transaction-body r h g =
             rw (byte-there s at _ l)
-            (simp (le-leb _ _ n) (then-at (readMany (readQuery s R) (byte s at) (at + 1)) _ e h (λ qs. g ∙ then-end (sub p) (λ a end. transaction place p end qs a))))
+            (simp (le-leb _ _ n) (then-at (readMany (readQuery s R) (byte s at) (at + 1)) _ e h (λ qs. g ∙ then-end (sub t) (λ a end. transaction place t end qs a))))
 
   -- an answer does not keep the place
   assign-same : (at next : ℕ) → endOf (readAssign s v next) ≡ endOf (assignAt s P R v sub at next)
@@ -182,7 +180,7 @@ pub ruleset whiles = (while-test, while-body)
 
 pub ruleset queries = (query-atoms, query-first, query-second)
 
-pub ruleset transactions = (transaction-missing, transaction-many, transaction-list, transaction-body)
+pub ruleset transactions = (transaction-missing, transaction-many, transaction-list, transaction-body, tells)
 
 pub stmt-deep : (s : List ℕ) (P R v d at : ℕ) → d ≡ 0 → stopped 14 at ≡ endOf (readStmt s P R v d at)
 unfolding readStmt endOf
@@ -210,32 +208,32 @@ module _ (s : List ℕ) (P R v d at : ℕ) (f : d ≡ 0 → ⊥) where
       unfolding coded endOf
       stmt-skip g = rw (here, h, g)
 
-      module _ (r : Answer) where
-        pub stmt-assign : x ≡ Assign → reachedBy r ≡ endOf (readAssign s v (at + 1)) → reachedBy r ≡ endOf (readStmt s P R v d at)
+      module _ (r : ℕ) where
+        pub stmt-assign : x ≡ Assign → told r ≡ endOf (readAssign s v (at + 1)) → told r ≡ endOf (readStmt s P R v d at)
         unfolding coded
         stmt-assign g i = rw (here, h, g) (i ∙ assign-same s P R v (readStmt s P R v (d - 1)) at (at + 1))
 
-        pub stmt-block : x ≡ Block → reachedBy r ≡ endOf (blockAt s P R v (readStmt s P R v (d - 1)) (at + 1)) → reachedBy r ≡ endOf (readStmt s P R v d at)
+        pub stmt-block : x ≡ Block → told r ≡ endOf (blockAt s P R v (readStmt s P R v (d - 1)) (at + 1)) → told r ≡ endOf (readStmt s P R v d at)
         unfolding coded
         stmt-block g i = rw (here, h, g) i
 
-        pub stmt-if : x ≡ If → reachedBy r ≡ endOf (ifAt s P R v (readStmt s P R v (d - 1)) (at + 1)) → reachedBy r ≡ endOf (readStmt s P R v d at)
+        pub stmt-if : x ≡ If → told r ≡ endOf (ifAt s P R v (readStmt s P R v (d - 1)) (at + 1)) → told r ≡ endOf (readStmt s P R v d at)
         unfolding coded
         stmt-if g i = rw (here, h, g) i
 
-        pub stmt-while : x ≡ While → reachedBy r ≡ endOf (whileAt s P R v (readStmt s P R v (d - 1)) (at + 1)) → reachedBy r ≡ endOf (readStmt s P R v d at)
+        pub stmt-while : x ≡ While → told r ≡ endOf (whileAt s P R v (readStmt s P R v (d - 1)) (at + 1)) → told r ≡ endOf (readStmt s P R v d at)
         unfolding coded
         stmt-while g i = rw (here, h, g) i
 
-        pub stmt-query : (place : ℕ) → x ≡ Query → reachedBy r ≡ endOf (queryAt s P R v (readStmt s P R v (d - 1)) place (at + 1)) → reachedBy r ≡ endOf (readStmt s P R v d at)
+        pub stmt-query : (place : ℕ) → x ≡ Query → told r ≡ endOf (queryAt s P R v (readStmt s P R v (d - 1)) place (at + 1)) → told r ≡ endOf (readStmt s P R v d at)
         unfolding coded
         stmt-query place g i = rw (here, h, g) (i ∙ query-same s P R v (readStmt s P R v (d - 1)) at place (at + 1))
 
-        pub stmt-update : x ≡ Update → reachedBy r ≡ endOf (readUpdate s P R (at + 1)) → reachedBy r ≡ endOf (readStmt s P R v d at)
+        pub stmt-update : x ≡ Update → told r ≡ endOf (readUpdate s P R (at + 1)) → told r ≡ endOf (readStmt s P R v d at)
         unfolding coded
         stmt-update g i = rw (here, h, g) (i ∙ update-same s P R v (readStmt s P R v (d - 1)) at (at + 1))
 
-        pub stmt-transaction : (place : ℕ) → x ≡ Transaction → reachedBy r ≡ endOf (transactionAt s P R v (readStmt s P R v (d - 1)) place (at + 1)) → reachedBy r ≡ endOf (readStmt s P R v d at)
+        pub stmt-transaction : (place : ℕ) → x ≡ Transaction → told r ≡ endOf (transactionAt s P R v (readStmt s P R v (d - 1)) place (at + 1)) → told r ≡ endOf (readStmt s P R v d at)
         unfolding coded
         stmt-transaction place g i = rw (here, h, g) (i ∙ transaction-same s P R v (readStmt s P R v (d - 1)) at place (at + 1))
 
@@ -254,12 +252,15 @@ module _ (s : List ℕ) (d at : ℕ) where
     unfolding FindsSkip
     skip-there = f h .there
 
+    pub skip-low : length s < placeLimit → at + 1 < placeLimit
+    skip-low l = omega (arith, skip-there)
+
     pub skip-passed : (P R v i : ℕ) (r : Reached) → endOf (readMany (readStmt s P R v d) i at) ≡ r → 0 < i → endOf (readMany (readStmt s P R v d) (i - 1) (at + 1)) ≡ r
     unfolding FindsSkip statementOf
     skip-passed P R v i r e l =
         let k = f h in
-        many-more (readStmt s P R v d) i at (at + 1) (At (at + 1)) r e l (stmt-skip s P R v d at (k .deep) (k .there) (Is Skip) (rw (k .code)) Skip refl refl) refl
+        many-next (readStmt s P R v d) i at (at + 1) r e l (stmt-skip s P R v d at (k .deep) (k .there) (Is Skip) (rw (k .code)) Skip refl refl)
 
-pub ruleset skips = (skip-not, skip-is, skip-passed)
+pub ruleset skips = (skip-not, skip-is, skip-low, skip-passed)
 
-pub ruleset statements = (stmt-deep, stmt-missing, stmt-unknown, stmt-skip, stmt-assign, stmt-block, stmt-if, stmt-while, stmt-query, stmt-update, stmt-transaction)
+pub ruleset statements = (stmt-deep, stmt-missing, stmt-unknown, stmt-skip, stmt-assign, stmt-block, stmt-if, stmt-while, stmt-query, stmt-update, stmt-transaction, tells)

@@ -1,6 +1,6 @@
 -- What an answer of the code says, and what the model's readings say in the same words.
 use mathlib.Core.Path.{_≡_}
-use Prim.Native.Nat.{ℕ, suc, _*_, _<_}
+use Prim.Native.Nat.{ℕ, suc, _+_, _*_, _/_, _%_, _<_}
 use mathlib.Core.List.{List}
 use mathlib.Core.Bool.{Bool, true, cond}
 use lib.Dec.{ltb, leb}
@@ -23,6 +23,23 @@ pub data Reached : Type 0 where
 abbrev pub reachedBy : Answer → Reached
 reachedBy (At position) = reached position
 reachedBy (Refused number place) = stopped number place
+
+-- below this a word is a position, and every place is below it
+abbrev pub placeLimit : ℕ
+placeLimit = 4294967296
+
+-- a refusal in one word: the number from bit 32 on, the place below
+unfoldable pub refusal : ℕ → ℕ → ℕ
+refusal number place = number * placeLimit + place % placeLimit
+
+-- what a word says
+unfoldable pub told : ℕ → Reached
+told w = cond (ltb w placeLimit) (reached w) (stopped (w / placeLimit) (w % placeLimit))
+
+-- a word can tell a position, and the end of the bytes
+pub record Within (s : List ℕ) (at : ℕ) : Type 0 where
+  pub short : length s < placeLimit
+  pub low : at < placeLimit
 
 -- how far a reading of the model came; the tree is not kept
 unfoldable pub endOf : {A : Type 0} → Reading A → Reached

@@ -1,9 +1,9 @@
 // The lists of a program: so many labels, queries or mutations, one after the other.
 ghost use mathlib.Core.Path.{_≡_};
 ghost use Rattle.model.specs.Program.{readMany};
-ghost use Rattle.program.specs.Answer.{reachedBy, endOf};
+ghost use Rattle.program.specs.Answer.{told, Within, endOf};
 ghost use Rattle.program.specs.Entries.{Room, readEntry};
-use super::answer::Answer;
+use super::answer;
 use super::atoms;
 
 // What a list holds: the labels of variables, the queries of a transaction, the mutations of an update.
@@ -14,9 +14,10 @@ pub enum Entry {
 }
 
 // One entry.
-fn read_entry(program: &[u8], principals: u8, roles: u8, entry: Entry, at: usize) -> Answer
+fn read_entry(program: &[u8], principals: u8, roles: u8, entry: Entry, at: usize) -> u64
     requires { ⌜ Room entry roles ⌝ }
-    ensures { λ r. ⌜ reachedBy r ≡ endOf (readEntry (now (program .entry)) principals roles entry at) ⌝ }
+    requires { ⌜ Within (now program) at ⌝ }
+    ensures { λ r. ⌜ told r ≡ endOf (readEntry (now (program .entry)) principals roles entry at) ⌝ }
 {
     match entry {
         Entry::Label => atoms::read_label(program, roles, at),
@@ -33,19 +34,20 @@ pub fn read_entries(
     entry: Entry,
     n: u8,
     at: usize,
-) -> Answer
+) -> u64
     requires { ⌜ Room entry roles ⌝ }
-    ensures { λ r. ⌜ reachedBy r ≡ endOf (readMany (readEntry (now (program .entry)) principals roles entry) n at) ⌝ }
+    requires { ⌜ Within (now program) at ⌝ }
+    ensures { λ r. ⌜ told r ≡ endOf (readMany (readEntry (now (program .entry)) principals roles entry) n at) ⌝ }
 {
     let mut left = n;
     let mut next = at;
     while 0 < left {
         let one = read_entry(program, principals, roles, entry, next);
-        let Answer::At(end) = one else {
+        if answer::REFUSED <= one {
             return one;
-        };
-        next = end;
+        }
+        next = one as usize;
         left -= 1;
     }
-    Answer::At(next)
+    next as u64
 }

@@ -3,8 +3,8 @@
 ghost use mathlib.Core.Path.{_≡_};
 ghost use Prim.Native.Nat.{_-_};
 ghost use Rattle.model.specs.Program.{readStmt, blockAt, ifAt, whileAt, queryAt, transactionAt};
-ghost use Rattle.program.specs.Answer.{reachedBy, endOf, readAssign, readUpdate, FindsSkip};
-use super::answer::Answer;
+ghost use Rattle.program.specs.Answer.{told, Within, endOf, readAssign, readUpdate, FindsSkip};
+use super::answer;
 use super::atoms;
 use super::codes;
 use super::codes::Statement;
@@ -16,48 +16,50 @@ use shared::limit;
 use shared::number;
 
 // Too deep is 14 before the code is read.
-pub fn read_stmt(
-    program: &[u8],
-    principals: u8,
-    roles: u8,
-    vars: u8,
-    depth: u8,
-    at: usize,
-) -> Answer
-    ensures { λ r. ⌜ reachedBy r ≡ endOf (readStmt (now (program .entry)) principals roles vars depth at) ⌝ }
+pub fn read_stmt(program: &[u8], principals: u8, roles: u8, vars: u8, depth: u8, at: usize) -> u64
+    requires { ⌜ Within (now program) at ⌝ }
+    ensures { λ r. ⌜ told r ≡ endOf (readStmt (now (program .entry)) principals roles vars depth at) ⌝ }
 {
     if depth == 0 {
-        return Answer::Refused(number::PROGRAM_DEPTH, at);
+        return answer::refused(number::PROGRAM_DEPTH, at);
     }
     if program.len() <= at {
-        return Answer::Refused(number::PROGRAM_LENGTH, program.len());
+        return answer::refused(number::PROGRAM_LENGTH, program.len());
     }
     let next = at + 1;
     let inner = depth - 1;
     let StatementOf::Is(code) = codes::statement_of(program[at]) else {
-        return Answer::Refused(number::PROGRAM_CODE, at);
+        return answer::refused(number::PROGRAM_CODE, at);
     };
     match code {
-        Statement::Skip => Answer::At(next),
-        Statement::Assign => read_assign(program, vars, next),
-        Statement::Block => read_block(program, principals, roles, vars, inner, next),
-        Statement::If => read_if(program, principals, roles, vars, inner, next),
-        Statement::While => read_while(program, principals, roles, vars, inner, next),
-        Statement::Query => read_query(program, principals, roles, vars, inner, next),
-        Statement::Update => read_update(program, principals, roles, next),
-        Statement::Transaction => read_transaction(program, principals, roles, vars, inner, next),
+        Statement::Skip => next as u64,
+        Statement::Assign => read_assign(&program[..], vars, next),
+        Statement::Block => read_block(&program[..], principals, roles, vars, inner, next),
+        Statement::If => read_if(&program[..], principals, roles, vars, inner, next),
+        Statement::While => read_while(&program[..], principals, roles, vars, inner, next),
+        Statement::Query => read_query(&program[..], principals, roles, vars, inner, next),
+        Statement::Update => read_update(&program[..], principals, roles, next),
+        Statement::Transaction => read_transaction(
+            &program[..],
+            principals,
+            roles,
+            vars,
+            inner,
+            next,
+        ),
     }
 }
 
 // A variable, an expression.
-fn read_assign(program: &[u8], vars: u8, at: usize) -> Answer
-    ensures { λ r. ⌜ reachedBy r ≡ endOf (readAssign (now (program .entry)) vars at) ⌝ }
+fn read_assign(program: &[u8], vars: u8, at: usize) -> u64
+    requires { ⌜ Within (now program) at ⌝ }
+    ensures { λ r. ⌜ told r ≡ endOf (readAssign (now (program .entry)) vars at) ⌝ }
 {
     let target = atoms::read_below(program, vars, at);
-    let Answer::At(next) = target else {
+    if answer::REFUSED <= target {
         return target;
-    };
-    expressions::read_expr(program, vars, limit::EXPRESSION_DEPTH, next)
+    }
+    expressions::read_expr(&program[..], vars, limit::EXPRESSION_DEPTH, target as usize)
 }
 
 // Whether a skip, code 00, stands at a position with depth left for it.
@@ -74,11 +76,12 @@ fn is_skip(program: &[u8], depth: u8, at: usize) -> bool
 }
 
 // n, n statements. A skip is passed over here, since a call would cost more than all else of it.
-fn read_block(program: &[u8], principals: u8, roles: u8, vars: u8, depth: u8, at: usize) -> Answer
-    ensures { λ r. ⌜ reachedBy r ≡ endOf (blockAt (now (program .entry)) principals roles vars (readStmt (now (program .entry)) principals roles vars depth) at) ⌝ }
+fn read_block(program: &[u8], principals: u8, roles: u8, vars: u8, depth: u8, at: usize) -> u64
+    requires { ⌜ Within (now program) at ⌝ }
+    ensures { λ r. ⌜ told r ≡ endOf (blockAt (now (program .entry)) principals roles vars (readStmt (now (program .entry)) principals roles vars depth) at) ⌝ }
 {
     if program.len() <= at {
-        return Answer::Refused(number::PROGRAM_LENGTH, program.len());
+        return answer::refused(number::PROGRAM_LENGTH, program.len());
     }
     let mut left = program[at];
     let mut next = at + 1;
@@ -87,73 +90,77 @@ fn read_block(program: &[u8], principals: u8, roles: u8, vars: u8, depth: u8, at
             next += 1;
             left -= 1;
         } else {
-            let one = read_stmt(program, principals, roles, vars, depth, next);
-            let Answer::At(end) = one else {
+            let one = read_stmt(&program[..], principals, roles, vars, depth, next);
+            if answer::REFUSED <= one {
                 return one;
-            };
-            next = end;
+            }
+            next = one as usize;
             left -= 1;
         }
     }
-    Answer::At(next)
+    next as u64
 }
 
 // An expression, two statements.
-fn read_if(program: &[u8], principals: u8, roles: u8, vars: u8, depth: u8, at: usize) -> Answer
-    ensures { λ r. ⌜ reachedBy r ≡ endOf (ifAt (now (program .entry)) principals roles vars (readStmt (now (program .entry)) principals roles vars depth) at) ⌝ }
+fn read_if(program: &[u8], principals: u8, roles: u8, vars: u8, depth: u8, at: usize) -> u64
+    requires { ⌜ Within (now program) at ⌝ }
+    ensures { λ r. ⌜ told r ≡ endOf (ifAt (now (program .entry)) principals roles vars (readStmt (now (program .entry)) principals roles vars depth) at) ⌝ }
 {
-    let test = expressions::read_expr(program, vars, limit::EXPRESSION_DEPTH, at);
-    let Answer::At(first) = test else {
+    let test = expressions::read_expr(&program[..], vars, limit::EXPRESSION_DEPTH, at);
+    if answer::REFUSED <= test {
         return test;
-    };
-    let taken = read_stmt(program, principals, roles, vars, depth, first);
-    let Answer::At(second) = taken else {
+    }
+    let taken = read_stmt(&program[..], principals, roles, vars, depth, test as usize);
+    if answer::REFUSED <= taken {
         return taken;
-    };
-    read_stmt(program, principals, roles, vars, depth, second)
+    }
+    read_stmt(&program[..], principals, roles, vars, depth, taken as usize)
 }
 
 // An expression, a statement.
-fn read_while(program: &[u8], principals: u8, roles: u8, vars: u8, depth: u8, at: usize) -> Answer
-    ensures { λ r. ⌜ reachedBy r ≡ endOf (whileAt (now (program .entry)) principals roles vars (readStmt (now (program .entry)) principals roles vars depth) at) ⌝ }
+fn read_while(program: &[u8], principals: u8, roles: u8, vars: u8, depth: u8, at: usize) -> u64
+    requires { ⌜ Within (now program) at ⌝ }
+    ensures { λ r. ⌜ told r ≡ endOf (whileAt (now (program .entry)) principals roles vars (readStmt (now (program .entry)) principals roles vars depth) at) ⌝ }
 {
-    let test = expressions::read_expr(program, vars, limit::EXPRESSION_DEPTH, at);
-    let Answer::At(body) = test else {
+    let test = expressions::read_expr(&program[..], vars, limit::EXPRESSION_DEPTH, at);
+    if answer::REFUSED <= test {
         return test;
-    };
-    read_stmt(program, principals, roles, vars, depth, body)
+    }
+    read_stmt(&program[..], principals, roles, vars, depth, test as usize)
 }
 
 // Two atoms, two statements.
-fn read_query(program: &[u8], principals: u8, roles: u8, vars: u8, depth: u8, at: usize) -> Answer
-    ensures { λ r. ⌜ reachedBy r ≡ endOf (queryAt (now (program .entry)) principals roles vars (readStmt (now (program .entry)) principals roles vars depth) (at - 1) at) ⌝ }
+fn read_query(program: &[u8], principals: u8, roles: u8, vars: u8, depth: u8, at: usize) -> u64
+    requires { ⌜ Within (now program) at ⌝ }
+    ensures { λ r. ⌜ told r ≡ endOf (queryAt (now (program .entry)) principals roles vars (readStmt (now (program .entry)) principals roles vars depth) (at - 1) at) ⌝ }
 {
     let query = atoms::read_query(program, roles, at);
-    let Answer::At(first) = query else {
+    if answer::REFUSED <= query {
         return query;
-    };
-    let known = read_stmt(program, principals, roles, vars, depth, first);
-    let Answer::At(second) = known else {
+    }
+    let known = read_stmt(&program[..], principals, roles, vars, depth, query as usize);
+    if answer::REFUSED <= known {
         return known;
-    };
-    read_stmt(program, principals, roles, vars, depth, second)
+    }
+    read_stmt(&program[..], principals, roles, vars, depth, known as usize)
 }
 
 // n, n mutations; n is 1 to 16.
-fn read_update(program: &[u8], principals: u8, roles: u8, at: usize) -> Answer
-    ensures { λ r. ⌜ reachedBy r ≡ endOf (readUpdate (now (program .entry)) principals roles at) ⌝ }
+fn read_update(program: &[u8], principals: u8, roles: u8, at: usize) -> u64
+    requires { ⌜ Within (now program) at ⌝ }
+    ensures { λ r. ⌜ told r ≡ endOf (readUpdate (now (program .entry)) principals roles at) ⌝ }
 {
     if program.len() <= at {
-        return Answer::Refused(number::PROGRAM_LENGTH, program.len());
+        return answer::refused(number::PROGRAM_LENGTH, program.len());
     }
     let n = program[at];
     if n == 0 {
-        return Answer::Refused(number::PROGRAM_RANGE, at);
+        return answer::refused(number::PROGRAM_RANGE, at);
     }
     if limit::LIST < n {
-        return Answer::Refused(number::PROGRAM_RANGE, at);
+        return answer::refused(number::PROGRAM_RANGE, at);
     }
-    entries::read_entries(program, principals, roles, Entry::Mutation, n, at + 1)
+    entries::read_entries(&program[..], principals, roles, Entry::Mutation, n, at + 1)
 }
 
 // n, n atom pairs, a statement; n is 0 to 16.
@@ -164,19 +171,20 @@ fn read_transaction(
     vars: u8,
     depth: u8,
     at: usize,
-) -> Answer
-    ensures { λ r. ⌜ reachedBy r ≡ endOf (transactionAt (now (program .entry)) principals roles vars (readStmt (now (program .entry)) principals roles vars depth) (at - 1) at) ⌝ }
+) -> u64
+    requires { ⌜ Within (now program) at ⌝ }
+    ensures { λ r. ⌜ told r ≡ endOf (transactionAt (now (program .entry)) principals roles vars (readStmt (now (program .entry)) principals roles vars depth) (at - 1) at) ⌝ }
 {
     if program.len() <= at {
-        return Answer::Refused(number::PROGRAM_LENGTH, program.len());
+        return answer::refused(number::PROGRAM_LENGTH, program.len());
     }
     let n = program[at];
     if limit::LIST < n {
-        return Answer::Refused(number::PROGRAM_RANGE, at);
+        return answer::refused(number::PROGRAM_RANGE, at);
     }
-    let list = entries::read_entries(program, principals, roles, Entry::Query, n, at + 1);
-    let Answer::At(body) = list else {
+    let list = entries::read_entries(&program[..], principals, roles, Entry::Query, n, at + 1);
+    if answer::REFUSED <= list {
         return list;
-    };
-    read_stmt(program, principals, roles, vars, depth, body)
+    }
+    read_stmt(&program[..], principals, roles, vars, depth, list as usize)
 }

@@ -7,13 +7,16 @@ pub read-atom-spec : {M : Type 1} → statement M
 read-atom-spec =
     tie.close
     (tie.spec
+    (λ c κs. search needs)
     (λ c. search (needs, atoms))
     (λ c. search needs)
     (λ c κs. search needs)
     (λ c. search needs)
     (λ c. search needs)
+    (λ c κs. search needs)
     (λ c. search (needs, atoms))
     (λ c κs. search needs)
     (λ c. search needs)
     (λ c. search (needs, atoms))
+    (λ c κs. search needs)
     (λ c. search (needs, atoms)))

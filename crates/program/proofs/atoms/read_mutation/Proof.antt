@@ -7,16 +7,16 @@ pub read-mutation-spec : {M : Type 1} → statement M
 read-mutation-spec =
     tie.close
     (tie.spec
+    (λ c κs. search needs)
     (λ c. search (needs, mutations))
     (λ c. search needs)
     (λ c κs. search needs)
     (λ c. search needs)
     (λ c. search needs)
+    (λ c κs. search needs)
     (λ c. search (needs, mutations))
     (λ c. search needs)
     (λ c κs. search needs)
-    (λ c. search needs)
-    (λ c. search needs)
     (λ c. search (needs, mutations))
     (λ c κs. search needs)
     (λ c κs. search needs)

@@ -1,7 +1,9 @@
--- The loop keeps this: reading what is left from where it stands comes to what reading all from the start comes to.
+-- The loop keeps this: reading what is left from where it stands comes to what reading all from the start comes to, and a word
+-- can tell where it stands.
 use mathlib.Core.Path.{_≡_}
+use Prim.Native.Nat.{_<_}
 use Rattle.model.specs.Program.{readMany}
-use Rattle.program.specs.Answer.{endOf}
+use Rattle.program.specs.Answer.{placeLimit, endOf}
 use Rattle.program.specs.Entries.{readEntry}
 use Rattle.program.proofs.AnswerLaws.{many}
 use borrow.Author.Needs.{needs}
@@ -10,7 +12,7 @@ use Rattle.program.proofs.entries.read_entries.Tie as tie
 
 abbrev Inv-loop : tie.InvT-loop
 Inv-loop program principals roles entry n at left₀ next₀ left next =
-    endOf (readMany (readEntry program principals roles entry) left next) ≡ endOf (readMany (readEntry program principals roles entry) n at)
+    (endOf (readMany (readEntry program principals roles entry) left next) ≡ endOf (readMany (readEntry program principals roles entry) n at)) × (next < placeLimit)
 
 abbrev μ-loop : tie.MeasureT-loop
 μ-loop program principals roles entry n at left₀ next₀ left next = left
@@ -23,8 +25,6 @@ read-entries-spec =
     μ-loop
     (λ c. search (needs, many))
     (λ c κs. search needs)
-    (λ c. search needs)
-    (λ c. search needs)
     (λ c. search (needs, many))
     (λ c. search needs)
     (λ c. search needs)

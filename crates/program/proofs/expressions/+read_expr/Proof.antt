@@ -8,6 +8,7 @@ use borrow.Fn.PlainCycle.{Measures, is, falls, and}
 use Rattle.program.proofs.expressions.read_expr.Reads as read-expr
 use Rattle.program.proofs.expressions.read_expr.Kinds as read-expr-kinds
 use Rattle.program.proofs.expressions.+read_expr.Lts-read_expr as read-expr-lts
+use Rattle.program.proofs.answer.refused.Reads as refused-reads
 use Rattle.program.proofs.atoms.read_below.Reads as read-below-reads
 use Rattle.program.proofs.codes.expression_of.Reads as expression-of-reads
 use Rattle.program.proofs.expressions.+read_expr.{statement}
@@ -25,6 +26,8 @@ read-expr-below t =
 
 pub +read-expr-spec : {M : Type 1} → statement M
 +read-expr-spec = close μ-read-expr λ t. read-expr-lts.spec (
+  refused-reads.Asked,
+  refused-reads.Learnt,
   expression-of-reads.Asked,
   expression-of-reads.Learnt,
   read-below-reads.Asked,
@@ -34,16 +37,9 @@ pub +read-expr-spec : {M : Type 1} → statement M
 )
     (read-expr-at t)
     read-expr.Post
-    (λ c. search (needs, expressions))
-    (λ c. search (needs, expressions))
-    (λ c. search needs)
-    (λ c. search needs)
     (λ c κs. search needs)
-    (λ c. search needs)
-    (λ c. search needs)
     (λ c. search (needs, expressions))
-    (λ c. search needs)
-    (λ c. search needs)
+    (λ c κs. search needs)
     (λ c. search (needs, expressions))
     (λ c. search needs)
     (λ c. search needs)
@@ -51,8 +47,17 @@ pub +read-expr-spec : {M : Type 1} → statement M
     (λ c. search needs)
     (λ c. search needs)
     (λ c κs. search needs)
+    (λ c. search (needs, expressions))
     (λ c. search needs)
     (λ c. search needs)
+    (λ c κs. search needs)
+    (λ c. search (needs, expressions))
+    (λ c. search needs)
+    (λ c. search needs)
+    (λ c κs. search needs)
+    (λ c. search needs)
+    (λ c. search needs)
+    (λ c κs. search needs)
     (λ c. search (needs, expressions))
     (λ c. search needs)
     (λ c κs. search needs)

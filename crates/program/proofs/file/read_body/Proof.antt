@@ -5,4 +5,4 @@ use Rattle.program.proofs.file.read_body.Tie as tie
 
 pub read-body-spec : {M : Type 1} → statement M
 read-body-spec =
-    tie.close (tie.spec (λ c κs. search needs) (λ c. search needs) (λ c. search needs) (λ c. search (needs, bodies)) (λ c. search (needs, bodies)) (λ c. search (needs, bodies)))
+    tie.close (tie.spec (λ c κs. search needs) (λ c. search (needs, bodies)) (λ c κs. search needs) (λ c. search (needs, bodies)) (λ c. search (needs, bodies)))

@@ -9,8 +9,8 @@ read-program-spec =
     (tie.spec
     (λ c. search (needs, programs))
     (λ c κs. search needs)
-    (λ c. search needs)
-    (λ c. search needs)
+    (λ c κs. search needs)
     (λ c. search (needs, programs))
+    (λ c κs. search needs)
     (λ c κs. search needs)
     (λ c. search (needs, programs)))

@@ -7,14 +7,14 @@ pub read-variables-spec : {M : Type 1} → statement M
 read-variables-spec =
     tie.close
     (tie.spec
+    (λ c κs. search needs)
     (λ c. search (needs, variables))
     (λ c. search needs)
+    (λ c κs. search needs)
     (λ c. search (needs, variables))
     (λ c. search needs)
     (λ c. search needs)
     (λ c κs. search needs)
-    (λ c. search needs)
-    (λ c. search needs)
     (λ c. search (needs, variables))
     (λ c κs. search needs)
     (λ c. search (needs, variables)))

@@ -1,8 +1,9 @@
 -- A statement calls a part with one less of depth, and a part calls statements with what it was given: twice the depth, and
--- one more in a part, falls at every call. A block's loop keeps that reading what is left comes to what reading all comes to.
+-- one more in a part, falls at every call. A block's loop keeps that reading what is left comes to what reading all comes to,
+-- and that a word can tell where it stands.
 use mathlib.Core.Path.{_≡_}
 use Rattle.model.specs.Program.{readMany, readStmt, blockAt}
-use Rattle.program.specs.Answer.{endOf}
+use Rattle.program.specs.Answer.{placeLimit, endOf}
 use Rattle.program.proofs.StatementLaws.{statements, blocks, skips, skip-there, ifs, whiles, queries, transactions}
 use native.Mathlib.Omega.{arith}
 use borrow.Author.Needs.{needs}
@@ -27,11 +28,12 @@ use Rattle.program.proofs.statements.+read_block+read_if+read_query+rea
 use Rattle.program.proofs.statements.read_while.Reads as read-while
 use Rattle.program.proofs.statements.read_while.Kinds as read-while-kinds
 use Rattle.program.proofs.statements.+read_block+read_if+read_query+read_stmt+read_transaction+read_while.Lts-read_while as read-while-lts
-use Rattle.program.proofs.entries.read_entries.Reads as read-entries-reads
+use Rattle.program.proofs.answer.refused.Reads as refused-reads
 use Rattle.program.proofs.atoms.read_query.Reads as read-query-reads
 use Rattle.program.proofs.codes.statement_of.Reads as statement-of-reads
-use Rattle.program.proofs.statements.is_skip.Reads as is-skip-reads
+use Rattle.program.proofs.entries.read_entries.Reads as read-entries-reads
 use Rattle.program.proofs.expressions.read_expr.Reads as read-expr-reads
+use Rattle.program.proofs.statements.is_skip.Reads as is-skip-reads
 use Rattle.program.proofs.statements.read_assign.Reads as read-assign-reads
 use Rattle.program.proofs.statements.read_update.Reads as read-update-reads
 use Rattle.program.proofs.statements.+read_block+read_if+read_query+read_stmt+read_transaction+read_while.{
@@ -113,7 +115,8 @@ read-while-below t =
     and 1 read-while-kinds.ps (falls 1 read-while-kinds.ps _<_ μ-read-while t) read-while.Pre
 
 abbrev read-block-Inv-loop : read-block-lts.InvT-loop
-read-block-Inv-loop s principals roles vars depth at left₀ next₀ left next = endOf (readMany (readStmt s principals roles vars depth) left next) ≡ endOf (blockAt s principals roles vars (readStmt s principals roles vars depth) at)
+read-block-Inv-loop s principals roles vars depth at left₀ next₀ left next =
+    (endOf (readMany (readStmt s principals roles vars depth) left next) ≡ endOf (blockAt s principals roles vars (readStmt s principals roles vars depth) at)) × (next < placeLimit)
 
 abbrev read-block-μ-loop : read-block-lts.MeasureT-loop
 read-block-μ-loop s principals roles vars depth at left₀ next₀ left next = left
@@ -129,6 +132,8 @@ pub +read-block+read-if+read-query+read-stmt+read-transaction+read-while-spec :
     μ-read-transaction
     μ-read-while
     (λ t. read-block-lts.spec (
+      refused-reads.Asked,
+      refused-reads.Learnt,
       is-skip-reads.Asked,
       is-skip-reads.Learnt,
       read-stmt-below t,
@@ -138,22 +143,21 @@ pub +read-block+read-if+read-query+read-stmt+read-transaction+read-while-spec :
     read-block.Post
     read-block-Inv-loop
     read-block-μ-loop
-    (λ c. search (needs, blocks))
-    (λ c. search needs)
-    (λ c. search needs)
-    (λ c. search (needs, blocks))
     (λ c κs. search needs)
-    (λ c. omega (arith, skip-there _ _ _ _ (c .before .is-skip .ensures) (c .if2 .taken)))
+    (λ c. search (needs, blocks))
     (λ c. search needs)
     (λ c. search needs)
-    (λ c. search (needs, skips))
+    (λ c. (search (needs, blocks), search needs))
     (λ c κs. search needs)
     (λ c. search needs)
     (λ c. search needs)
+    (λ c. search needs)
+    (λ c. (search (needs, skips), search (needs, skips)))
+    (λ c κs. search needs)
     (λ c. search (needs, blocks))
     (λ c. search needs)
     (λ c. search needs)
-    (λ c. search (needs, blocks))
+    (λ c. (search (needs, blocks), search needs))
     (λ c. search (needs, blocks)))
     (λ t. read-if-lts.spec (
       read-expr-reads.Asked,
@@ -164,12 +168,8 @@ pub +read-block+read-if+read-query+read-stmt+read-transaction+read-while-spec :
     (read-if-at t)
     read-if.Post
     (λ c κs. search needs)
-    (λ c. search needs)
-    (λ c. search needs)
     (λ c. search (needs, ifs))
     (λ c κs. search needs)
-    (λ c. search needs)
-    (λ c. search needs)
     (λ c. search (needs, ifs))
     (λ c κs. search needs)
     (λ c. search (needs, ifs)))
@@ -182,16 +182,14 @@ pub +read-block+read-if+read-query+read-stmt+read-transaction+read-while-spec :
     (read-query-at t)
     read-query.Post
     (λ c κs. search needs)
-    (λ c. search needs)
-    (λ c. search needs)
     (λ c. search (needs, queries))
     (λ c κs. search needs)
-    (λ c. search needs)
-    (λ c. search needs)
     (λ c. search (needs, queries))
     (λ c κs. search needs)
     (λ c. search (needs, queries)))
     (λ t. read-stmt-lts.spec (
+      refused-reads.Asked,
+      refused-reads.Learnt,
       statement-of-reads.Asked,
       statement-of-reads.Learnt,
       read-assign-reads.Asked,
@@ -211,7 +209,9 @@ pub +read-block+read-if+read-query+read-stmt+read-transaction+read-while-spec :
     )
     (read-stmt-at t)
     read-stmt.Post
+    (λ c κs. search needs)
     (λ c. search (needs, statements))
+    (λ c κs. search needs)
     (λ c. search (needs, statements))
     (λ c. search needs)
     (λ c. search needs)
@@ -219,6 +219,7 @@ pub +read-block+read-if+read-query+read-stmt+read-transaction+read-while-spec :
     (λ c κs. search needs)
     (λ c. search needs)
     (λ c. search needs)
+    (λ c κs. search needs)
     (λ c. search (needs, statements))
     (λ c. search needs)
     (λ c. search needs)
@@ -244,6 +245,8 @@ pub +read-block+read-if+read-query+read-stmt+read-transaction+read-while-spec :
     (λ c. search (needs, statements))
     (λ c. search (needs, statements)))
     (λ t. read-transaction-lts.spec (
+      refused-reads.Asked,
+      refused-reads.Learnt,
       read-entries-reads.Asked,
       read-entries-reads.Learnt,
       read-stmt-below t,
@@ -251,13 +254,13 @@ pub +read-block+read-if+read-query+read-stmt+read-transaction+read-while-spec :
     )
     (read-transaction-at t)
     read-transaction.Post
-    (λ c. search (needs, transactions))
-    (λ c. search needs)
+    (λ c κs. search needs)
     (λ c. search (needs, transactions))
     (λ c. search needs)
     (λ c κs. search needs)
+    (λ c. search (needs, transactions))
     (λ c. search needs)
-    (λ c. search needs)
+    (λ c κs. search needs)
     (λ c. search (needs, transactions))
     (λ c κs. search needs)
     (λ c. search (needs, transactions)))
@@ -266,8 +269,6 @@ pub +read-block+read-if+read-query+read-stmt+read-transaction+read-while-spec :
     (read-while-at t)
     read-while.Post
     (λ c κs. search needs)
-    (λ c. search needs)
-    (λ c. search needs)
     (λ c. search (needs, whiles))
     (λ c κs. search needs)
     (λ c. search (needs, whiles))

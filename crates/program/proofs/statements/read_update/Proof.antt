@@ -7,9 +7,12 @@ pub read-update-spec : {M : Type 1} → statement M
 read-update-spec =
     tie.close
     (tie.spec
+    (λ c κs. search needs)
     (λ c. search (needs, updates))
     (λ c. search needs)
+    (λ c κs. search needs)
     (λ c. search (needs, updates))
+    (λ c κs. search needs)
     (λ c. search (needs, updates))
     (λ c. search needs)
     (λ c κs. search needs)
