@@ -5,11 +5,12 @@ use mathlib.Core.Logic.{⊎-elim}
 use Prim.Native.Nat.{ℕ, _+_, _-_, _<_, _≤_}
 use native.Mathlib.Omega.{arith}
 use native.Mathlib.Nat.{lt-of-lt-of-le}
+use native.Mathlib.Decide.{ℕ-discrete}
 use mathlib.Core.List.{List, [], _∷_, _++_, List·Memᴰ·head, List·Memᴰ·tail}
-use mathlib.Core.Bool.{Bool, true, false, true≢false}
-use lib.Bits.{bitOr}
+use mathlib.Core.Bool.{Bool, true, false, cond, true≢false}
+use lib.Bits.{bitOr, or-zero-r}
 use lib.Dec.{eqb}
-use lib.ListN.{length}
+use lib.ListN.{length, getD}
 use borrow.Author.Tests.{ne-eqb, eqb-true}
 use Rattle.model.specs.Limits.{roleLimit, expressionDepth}
 use Rattle.model.specs.Number.{Verdict, fine, refused, require, orElse}
@@ -21,49 +22,60 @@ use Rattle.model.specs.Program.{got, variables, readMany, readExpr, readQuery, 
 use Rattle.model.specs.Fits.{Each, QueryFits, MutationFits, ExprFits, Fits}
 use Rattle.model.specs.Flow.{Around as Surroundings, outside, inside, exprLabel, queryLabel, listLabel, assigned, rolesOf, mutated, listedIn, allAllowed, eachIn, mayAssign, mayUpdate, flow}
 use Rattle.model.proofs.Accepted.{accepted-facts}
+use Rattle.model.proofs.Reading.{stmt-within}
 use Rattle.model.specs.Sets.{has}
 use Rattle.model.proofs.Sets.{has-zero, has-or-l, has-or-r, or-has, subset-le, has-with-same, with-has}
 use Rattle.model.proofs.Standing.{many-none, many-more, mutations-end, stmt-deep, stmt-there, stmt-known, skip-parts, assign-parts, block-parts, if-parts, while-parts, branch-parts, update-parts, transaction-parts}
-use Rattle.program.specs.declared.answer.Answer.{Answer}
-use Rattle.program.specs.declared.answer.Answer.the-variants.{At, Refused}
 use Rattle.program.specs.declared.codes.Atom.{Atom as CodeAtom}
 use Rattle.program.specs.declared.codes.Statement.{Statement}
 use Rattle.program.specs.declared.codes.Statement.the-variants.{Skip, Assign, Block, If, While, Query, Update, Transaction}
 use Rattle.program.specs.declared.codes.StatementOf.{StatementOf}
 use Rattle.program.specs.declared.codes.StatementOf.the-variants as statement
-use Rattle.program.specs.Answer.{Reached, reached, stopped, reachedBy}
+use Rattle.program.specs.Answer.{Reached, reached, stopped, placeLimit, refusal, told}
+use Rattle.program.proofs.AnswerLaws.{position-told, refusal-told, refusal-kept}
 use Rattle.program.specs.Codes.{statementOf, statementByte}
 use Rattle.program.proofs.CodeLaws.{statement-byte, statement-none}
 use Rattle.order.specs.Table.{tableWords, queryOf, queryRoles, listRoles, Learnt}
 use Rattle.order.proofs.LearnLaws.{known-learnt}
-use Rattle.gathered.specs.declared.labels.Labels.{Labels}
-use Rattle.gathered.specs.declared.writes.Writes.{Writes as WritesOf}
 use Rattle.gathered.specs.Positions.{ahead, afterList}
-use Rattle.gathered.specs.Labels.{LabelsBelow, exprLabels, LabelsAt}
-use Rattle.gathered.specs.Writes.{stmtWrites, WritesAt}
+use Rattle.gathered.specs.Words.{exprRoles}
+use Rattle.gathered.specs.Labels.{LabelsBelow, labelsAdded, LabelsAt}
+use Rattle.gathered.specs.Writes.{writesAdded, WritesAt}
 use Rattle.gathered.proofs.PositionLaws.{ahead-is, list-is}
-use Rattle.flow.specs.declared.context.Around.{Around}
-use Rattle.flow.specs.declared.context.Meets.{Meets}
-use Rattle.flow.specs.declared.context.Context.{Context}
-use Rattle.flow.specs.declared.lists.QueryOf.{QueryOf}
-use Rattle.flow.specs.declared.lists.QueryOf.the-variants as query
-use Rattle.flow.specs.Lists.{ListedAt, QueryAt, KnownAt, QueryRolesAt, ListRolesAt, AllowedAt}
-use Rattle.flow.specs.Context.{ContextIs, FindsIdle, withLabels, withNamed, within, withMeets, joinOf, meetOf}
-use Rattle.flow.specs.Judge.{SetBelow, sidesNumber, Asked, allAbove, bothAbove, liesIn, Met, MetBoth, Held, updateNumber, AssignNumber}
-use Rattle.flow.specs.Check.{checkedTo, numbered, Ready, Inside, AroundIs, MeetsAre, Stands, StmtAt, Writes, StmtFits, CheckedAt, CodedAt, AssignAt, UpdateAt, PairAt, BranchesAt, Knowing, BothAt, LearntAt, BranchesOf, bodyStart, EnteredAt, Enters}
-use Rattle.flow.proofs.ContextLaws.{context-expr, context-query, context-list, context-same}
-use Rattle.flow.proofs.ListLaws.{query-not, query-is}
+use Rattle.context.specs.declared.lists.QueryOf.{QueryOf}
+use Rattle.context.specs.declared.lists.QueryOf.the-variants as query
+use Rattle.context.specs.Lists.{ListedAt, QueryAt, KnownAt, QueryRolesAt, ListRolesAt, AllowedAt}
+use Rattle.context.specs.Context.{Around, Meets, Labels, Context, aroundWords, aroundOf, meetsOf, labelsOf, contextOf, withLabels, withNamed, FindsIdle, joinOf, meetOf, ContextIs}
+use Rattle.context.specs.Judge.{SetBelow, sidesNumber, Asked, allAbove, bothAbove, liesIn, Met, MetBoth, Held, updateNumber, AssignNumber}
+use Rattle.flow.specs.Check.{checkedTo, numbered, numberedWord, Ready, Inside, AroundIs, MeetsAre, Stands, StmtAt, Writes, StmtFits, CheckedAt, CodedAt, AssignAt, UpdateAt, PairAt, BranchesAt, Knowing, BothAt, LearntAt, BranchesOf, bodyStart, EnteredAt, Enters}
+use Rattle.context.proofs.ContextLaws.{context-expr, context-query, context-list}
+use Rattle.context.proofs.ListLaws.{query-not, query-is}
+
+-- a transaction around
+pub inside-is : (a : List ℕ) (i : Bool) → i ≡ aroundOf a .inside → i ≡ true → aroundOf a .inside ≡ true
+inside-is a i e f = sym e ∙ f
 
 -- answers
-pub answer-fine : (k place end : ℕ) → k ≡ 0 → reached end ≡ numbered k place end
-unfolding numbered
-answer-fine k place end e = rw e
+pub numbered-fine : (k place end : ℕ) → k ≡ 0 → end ≡ numberedWord k place end
+unfolding numberedWord
+numbered-fine k place end e = rw e
 
-pub answer-refused : (k place end : ℕ) → (k ≡ 0 → ⊥) → stopped k place ≡ numbered k place end
-unfolding numbered
-answer-refused k place end n = rw (ne-eqb k 0 n)
+pub numbered-refused : (k place end w : ℕ) → (k ≡ 0 → ⊥) → w ≡ refusal k place → w ≡ numberedWord k place end
+unfolding numberedWord
+numbered-refused k place end w n e = rw (ne-eqb k 0 n) e
 
-pub ruleset answers = (answer-fine, answer-refused)
+pub ruleset answers = (numbered-fine, numbered-refused)
+
+numbered-told : (k place end w : ℕ) → w ≡ numberedWord k place end → place < placeLimit → end < placeLimit → told w ≡ numbered k place end
+unfolding numberedWord numbered
+numbered-told k place end w e l m = go (ℕ-discrete k 0)
+  where
+    go : Dec (k ≡ 0) → told w ≡ cond (eqb k 0) (reached end) (stopped k place)
+    go (yes z) = rw (e, z) (position-told end m)
+    go (no n) = rw (e, ne-eqb k 0 n) (refusal-kept k place (omega arith) l)
+
+stopped-told : (w k place : ℕ) → w ≡ refusal k place → 0 < k → place < placeLimit → told w ≡ stopped k place
+stopped-told w k place e some l = rw e (refusal-kept k place some l)
 
 pub reached-not : {A : Type 0} {m k place : ℕ} → reached m ≡ stopped k place → A
 reached-not e = let z : _≡_ {A = ℕ} 0 1 = cc in absurd (omega arith)
@@ -215,32 +227,38 @@ module _ (s p : List ℕ) (listed : List ModelQuery) where
 
 -- what stands for what, kept up
 module _ {s p t : List ℕ} {c : Context} {around : Surroundings} {known : List ModelQuery} {C : Side → List Atom} (st : Stands s p t c around known C) where
-  stands-asked : Asked s p t c known C
+  stands-asked : Asked s p t (c .labels) known C
   stands-asked = record { is-accepted = st .is-accepted; labels = st .labels; knows = st .knows; context = st .context }
 
   roles-few : roles s ≤ roleLimit
   roles-few = accepted-facts s (st .is-accepted) .roles-fit
 
-  -- under another context with the same transaction around it
-  stands-context : {k : Context} {K : Side → List Atom} → k .around ≡ c .around → k .meets ≡ c .meets → ContextIs (roles s) k K → Stands s p t k around known K
-  stands-context e f h = record {
+  -- a word tells where a statement stands and where it ends
+  low-start : (d at : ℕ) {x : Stmt} {end : ℕ} → StmtAt s p d at x end → at < placeLimit
+  low-start d at h = omega (arith, st .short, stmt-there p (principals s) (roles s) (variables p) d at h)
+
+  low-end : (d at : ℕ) {x : Stmt} {end : ℕ} → StmtAt s p d at x end → end < placeLimit
+  low-end d at h = omega (arith, st .short, stmt-within p (principals s) (roles s) (variables p) d at h .1)
+
+  -- under other labels
+  stands-labels : (l : Labels) {K : Side → List Atom} → ContextIs (roles s) l K → Stands s p t (record { around = c .around; meets = c .meets; labels = l }) around known K
+  stands-labels l h = record {
     is-accepted = st .is-accepted;
+    short = st .short;
     few = st .few;
     labels = st .labels;
     knows = st .knows;
-    surrounded = rw e (st .surrounded);
-    met = rw f (st .met);
+    surrounded = st .surrounded;
+    met = st .met;
     context = h;
   }
 
-  labels-are : (q : ℕ) (l : Labels) (e : Expr) (end : ℕ) → LabelsAt p expressionDepth q l → readExpr p (variables p) expressionDepth q ≡ got e end → l ≡ exprLabels p e end
+  labels-are : (q : ℕ) (b a : List ℕ) (r : ℕ) (e : Expr) (end : ℕ) → LabelsAt p expressionDepth q b a r → readExpr p (variables p) expressionDepth q ≡ got e end → (r ≡ end) × (a ≡ labelsAdded p e b)
   unfolding LabelsAt LabelsBelow
-  labels-are q l e end f h = f (variables p) (λ side x i n. lt-of-lt-of-le (st .labels side x i n) roles-few) e end h
+  labels-are q b a r e end f h = f (variables p) (λ side x i n. lt-of-lt-of-le (st .labels side x i n) roles-few) e end h
 
-  under-expr : (l : Labels) (k : Context) (e : Expr) (end : ℕ) → l ≡ exprLabels p e end → k ≡ withLabels c l → ExprFits (variables p) e → Stands s p t k around known (λ side. exprLabel p side e ++ C side)
-  under-expr l k e end f g h =
-      let i : k ≡ withLabels c (exprLabels p e end) = g ∙ ap (withLabels c) f in
-      stands-context (ap (λ (c : Context). c .around) i) (ap (λ (c : Context). c .meets) i) (rw i (context-expr (roles s) c C (st .context) p (variables p) e end (st .labels) h))
+  under-expr : (e : Expr) → ExprFits (variables p) e → ContextIs (roles s) (withLabels (c .labels) (exprRoles p reading e) (exprRoles p trust e)) (λ side. exprLabel p side e ++ C side)
+  under-expr e h = context-expr (roles s) (c .labels) C (st .context) p (variables p) e (st .labels) h
 
 -- a transaction around, or none
 record Within (p : List ℕ) (R vars : ℕ) (a : Around) (around : Surroundings) : Type 0 where
@@ -258,20 +276,26 @@ within-none : (p : List ℕ) (R vars : ℕ) (a : Around) (around : Surroundings)
 within-none p R vars a outside h e = refl
 within-none p R vars a (inside listed xs rs) h e = absurd (true≢false (sym (h .flag) ∙ e))
 
+-- the two words that an expression's labels were added to
+module _ (p : List ℕ) (e : Expr) (b a : List ℕ) (h : a ≡ labelsAdded p e b) where
+  added-context : (n ws : ℕ) (C : Side → List Atom) → ContextIs n (labelsOf (bitOr (exprRoles p reading e) (getD b 0 0)) (bitOr (exprRoles p trust e) (getD b 1 0)) ws) C → ContextIs n (labelsOf (getD a 0 0) (getD a 1 0) ws) C
+  added-context n ws C is = rw h is
+
 -- an assignment
-pub assign-checked : (p t : List ℕ) (c : Context) (at q x m : ℕ) (l : Labels) (k : Context) (n : ℕ) (r : Answer)
-    → q ≡ ahead p at 1 → x ≡ byte p q → m ≡ ahead p at 2 → LabelsAt p expressionDepth m l → k ≡ withLabels c l
-    → AssignNumber p t k x n → reachedBy r ≡ numbered n at (l .next) → AssignAt p t c at r
+pub assign-checked : (p t : List ℕ) (rs ts ws : ℕ) (at q x m : ℕ) (l : List ℕ) (next n : ℕ) (r : ℕ)
+    → q ≡ ahead p at 1 → x ≡ byte p q → m ≡ ahead p at 2 → LabelsAt p expressionDepth m (rs ∷ ts ∷ []) l next
+    → AssignNumber p t (labelsOf (getD l 0 0) (getD l 1 0) ws) x n → r ≡ numberedWord n at next → AssignAt p t (labelsOf rs ts ws) at r
 unfolding AssignAt CheckedAt AssignNumber flow mayAssign
-assign-checked p t c at q x m l k n r e₁ e₂ e₃ f g h j s d code around known C y end st i fit =
+assign-checked p t rs ts ws at q x m l next n r e₁ e₂ e₃ f h j s c d ce code around known C y end st i fit =
     let u = assign-parts p (principals s) (roles s) (variables p) d at i code in
     let xe : x ≡ byte p (at + 1) = e₂ ∙ ap (byte p) (e₁ ∙ ahead-is p at 1 (omega (arith, u .inside))) in
     let me : m ≡ at + 2 = e₃ ∙ ahead-is p at 2 (u .inside) in
-    let le : l ≡ exprLabels p (u .value) end = labels-are st m l (u .value) end f (rw me (u .value-read)) in
+    let le = labels-are st m (rs ∷ ts ∷ []) l next (u .value) end f (rw me (u .value-read)) in
     let w = rw (u .is) at (fit .0) in
-    let b = under-expr st l k (u .value) end le g (w .1) in
-    let v = h s known (λ side. exprLabel p side (u .value) ++ C side) (stands-asked b) (rw xe (u .fits)) in
-    rw (u .is, j, v, le, ← xe)
+    let b = added-context p (u .value) (rs ∷ ts ∷ []) l (le .1) (roles s) ws (λ side. exprLabel p side (u .value) ++ C side) (rw ce at (under-expr st (u .value) (w .1))) in
+    let v = h s known (λ side. exprLabel p side (u .value) ++ C side) (stands-asked (stands-labels st _ b)) (rw xe (u .fits)) in
+    let told-so : told r ≡ numbered n at end = numbered-told n at end r (rw (← (le .0)) j) (low-start st d at i) (low-end st d at i) in
+    rw (u .is, told-so, v, ← xe)
     (sides-checked (mayAssign s p known C x (u .value) reading) (mayAssign s p known C x (u .value) trust) at end)
 
 -- what an update is held to
@@ -287,11 +311,11 @@ sides-same e f = rw (e, f)
 
 -- an update
 module _ (s p : List ℕ) (c : Context) (at : ℕ) where
-  pub update-outside : c .around .inside ≡ false → UpdateAt s p c at (Refused 15 at)
+  pub update-outside : (i : Bool) (r : ℕ) → i ≡ c .around .inside → i ≡ false → r ≡ refusal 15 at → UpdateAt s p c at r
   unfolding UpdateAt CheckedAt flow checkedTo
-  update-outside e t d code around known C x end st h fit =
+  update-outside i r f e g t d code around known C x end st h fit =
       let u = update-parts p (principals s) (roles s) (variables p) d at h code in
-      rw (u .is, within-none p (roles s) (variables p) (c .around) around (st .surrounded) e)
+      rw (u .is, within-none p (roles s) (variables p) (c .around) around (st .surrounded) (sym f ∙ e)) (stopped-told r 15 at g (omega arith) (low-start st d at h))
 
   module _ (q n m : ℕ) (b : Bool) (i : q ≡ ahead p at 1) (j : n ≡ byte p q) (k : m ≡ ahead p at 2) (f : AllowedAt s p n m b) where
     allowed-is : (d : ℕ) (x : Stmt) (end : ℕ) → Accepted s → (h : StmtAt s p d at x end) → (code : byte p at ≡ 6) → b ≡ allAllowed s (update-parts p (principals s) (roles s) (variables p) d at h code .mutations)
@@ -302,129 +326,137 @@ module _ (s p : List ℕ) (c : Context) (at : ℕ) where
         let me : m ≡ at + 2 = k ∙ ahead-is p at 2 (u .inside) in
         f (u .mutations) end ok (rw (ne, me) (u .mutations-read))
 
-    pub update-grant : c .around .inside ≡ true → b ≡ false → UpdateAt s p c at (Refused 16 at)
+    pub update-grant : (r : ℕ) → c .around .inside ≡ true → b ≡ false → r ≡ refusal 16 at → UpdateAt s p c at r
     unfolding UpdateAt CheckedAt flow checkedTo
-    update-grant e g t d code around known C x end st h fit =
+    update-grant r e g re t d code around known C x end st h fit =
         let u = update-parts p (principals s) (roles s) (variables p) d at h code in
         let w = within-one p (roles s) (variables p) (c .around) around (st .surrounded) e in
         let v = sym (allowed-is d x end (st .is-accepted) h code) ∙ g in
-        rw (u .is, w .is, v)
+        rw (u .is, w .is, v) (stopped-told r 16 at re (omega arith) (low-start st d at h))
 
-  pub update-number : (r : Answer) (y o : ℕ) (l : Context) (n m : ℕ) (b : Bool) (q : ℕ)
-      → c .around .inside ≡ true → reachedBy r ≡ numbered y at o → o ≡ afterList p at 3 → y ≡ updateNumber l → l ≡ withNamed c (c .around .named)
+  pub update-number : (r : ℕ) (y o : ℕ) (n m : ℕ) (b : Bool) (q : ℕ)
+      → c .around .inside ≡ true → r ≡ numberedWord y at o → o ≡ afterList p at 3 → (k : ℕ) → k ≡ c .around .named
+      → y ≡ updateNumber (record { around = c .around; meets = c .meets; labels = withNamed (c .labels) k })
       → AllowedAt s p n m b → b ≡ true → n ≡ byte p q → q ≡ ahead p at 1 → m ≡ ahead p at 2 → UpdateAt s p c at r
   unfolding UpdateAt CheckedAt MetBoth Met flow mayUpdate allAbove
-  update-number r y o l n m b q e re oe h le f g e₂ e₁ e₃ t d code around known C x end st i fit =
+  update-number r y o n m b q e re oe k ke h f g e₂ e₁ e₃ t d code around known C x end st i fit =
       let u = update-parts p (principals s) (roles s) (variables p) d at i code in
       let w = within-one p (roles s) (variables p) (c .around) around (st .surrounded) e in
       let v = sym (allowed-is q n m b e₁ e₂ e₃ f d x end (st .is-accepted) i code) ∙ g in
       let ends = mutations-end p (principals s) (roles s) (byte p (at + 1)) (at + 2) (u .mutations-read) (u .inside) in
       let oo : o ≡ end = oe ∙ list-is p at 3 (omega arith) ∙ sym (ends .0) in
-      let lc : l ≡ withNamed c (listRoles (w .listed)) = le ∙ ap (withNamed c) (w .parts .named-are) in
-      let cl : ContextIs (roles s) l (λ side. C side ++ listLabel side (w .listed)) = rw lc (context-list (roles s) c C (st .context) (roles-few st) (w .listed) (w .parts .listed-below)) in
-      let b = stands-context st (ap (λ (c : Context). c .around) lc) (ap (λ (c : Context). c .meets) lc) cl in
+      let l = withNamed (c .labels) k in
+      let cl : ContextIs (roles s) l (λ side. C side ++ listLabel side (w .listed)) = subst (λ (n : ℕ). ContextIs (roles s) (withNamed (c .labels) n) (λ side. C side ++ listLabel side (w .listed))) (sym (ke ∙ w .parts .named-are)) (context-list (roles s) (c .labels) C (st .context) (roles-few st) (w .listed) (w .parts .listed-below)) in
       let K : Side → List Atom = λ side. C side ++ listLabel side (w .listed) in
       let v₁ = many-more _ (byte p (at + 1)) (at + 2) (u .mutations-read) (u .some) in
       let writes : Writes (inside (w .listed) (w .xs) (w .rs)) (update at (v₁ .head ∷ v₁ .tail)) = rw (w .is, u .is, v₁ .is) at (fit .1) in
-      let held : MetBoth p t (w .xs) (w .rs) (l .meets) = subst (MeetsAre p t (l .meets)) (w .is) (b .met) (writes-update (w .listed) (w .xs) (w .rs) at (v₁ .head) (v₁ .tail) writes) in
-      let side : (side : Side) → liesIn (joinOf side l) (meetOf side (l .meets)) ≡ bothAbove s p known K side (w .xs) (w .rs) = λ side. held side s l known K (stands-asked b) (w .parts .variables-below) (w .parts .roles-below) in
+      let held : MetBoth p t (w .xs) (w .rs) (c .meets) = subst (MeetsAre p t (c .meets)) (w .is) (st .met) (writes-update (w .listed) (w .xs) (w .rs) at (v₁ .head) (v₁ .tail) writes) in
+      let side : (side : Side) → liesIn (joinOf side l) (meetOf side (c .meets)) ≡ bothAbove s p known K side (w .xs) (w .rs) = λ side. held side s l known K (stands-asked (stands-labels st l cl)) (w .parts .variables-below) (w .parts .roles-below) in
       let n = h ∙ sides-same (side reading) (side trust) in
-      rw (u .is, w .is, v, re, oo, n) (sides-checked (mayUpdate s p known C (w .listed) (w .xs) (w .rs) reading) (mayUpdate s p known C (w .listed) (w .xs) (w .rs) trust) at end)
+      let told-so : told r ≡ numbered y at end = numbered-told y at end r (rw (← oo) re) (low-start st d at i) (low-end st d at i) in
+      rw (u .is, w .is, v, told-so, n) (sides-checked (mayUpdate s p known C (w .listed) (w .xs) (w .rs) reading) (mayUpdate s p known C (w .listed) (w .xs) (w .rs) trust) at end)
 
 -- entering a transaction
-pub entered-is : (p : List ℕ) (d at q m : ℕ) (a : Around) (v : WritesOf) → a .inside ≡ true → q ≡ ahead p at 1 → a .count ≡ byte p q → a .list ≡ ahead p at 2
-    → m ≡ afterList p at 2 → WritesAt p d m v → ListRolesAt p (a .count) (a .list) (a .named) → a .variables ≡ v .variables → a .roles ≡ v .roles
-    → EnteredAt p d at a
+pub entered-is : (p : List ℕ) (d at q m n count list end₀ named : ℕ) (w : List ℕ) → q ≡ ahead p at 1 → n ≡ byte p q → count ≡ n → list ≡ ahead p at 2
+    → m ≡ afterList p at 2 → WritesAt p d m (0 ∷ 0 ∷ []) w end₀ → ListRolesAt p n list named
+    → EnteredAt p d at (1 ∷ list ∷ count ∷ named ∷ getD w 0 0 ∷ getD w 1 0 ∷ 0 ∷ 0 ∷ 0 ∷ 0 ∷ [])
 unfolding EnteredAt WritesAt ListRolesAt
-entered-is p d at q m a v flag e₁ e₂ e₃ e₄ f g vs rs P R vars listed body end few few′ h i j k fit =
-    let ne : a .count ≡ byte p (at + 1) = e₂ ∙ ap (byte p) (e₁ ∙ ahead-is p at 1 (omega arith)) in
-    let le : a .list ≡ at + 2 = e₃ ∙ ahead-is p at 2 (omega arith) in
+entered-is p d at q m n count list end₀ named w e₁ e₂ e₀ e₃ e₄ f g P R vars listed body end few few′ h i j k fit =
+    let ne : n ≡ byte p (at + 1) = e₂ ∙ ap (byte p) (e₁ ∙ ahead-is p at 1 (omega arith)) in
+    let le : list ≡ at + 2 = e₃ ∙ ahead-is p at 2 (omega arith) in
     let me : m ≡ bodyStart p at = e₄ ∙ list-is p at 2 h in
-    let x : v ≡ stmtWrites body end = f P R vars (few, few′) body end (rw me k) in
-    let y : readMany (readQuery p R) (a .count) (a .list) ≡ got listed (bodyStart p at) = rw (ne, le) i in
+    let x = f P R vars (few, few′) body end (rw me k) .1 in
+    let y : readMany (readQuery p R) n list ≡ got listed (bodyStart p at) = rw (ne, le) i in
     record {
-      flag = flag;
+      flag = refl;
       end = bodyStart p at;
-      listed-read = y;
+      listed-read = rw e₀ y;
       listed-below = j;
       named-are = g R listed (bodyStart p at) y;
-      variables-are = vs ∙ ap (λ (r : WritesOf). r .variables) x;
+      variables-are = ap (λ (l : List ℕ). getD l 0 0) x ∙ or-zero-r (assigned body);
       variables-below = assigned-below P R vars body fit;
-      roles-are = rs ∙ ap (λ (r : WritesOf). r .roles) x;
+      roles-are = ap (λ (l : List ℕ). getD l 1 0) x ∙ or-zero-r (mutated body);
       roles-below = mutated-below P R vars body fit;
     }
 
-pub enters : (p t : List ℕ) (c : Context) (d at : ℕ) (a : Around) (i k : Context) → EnteredAt p d at a → i ≡ within c a → Held p t i k → Enters p t c d at k
-enters p t c d at a i k f e h = record { around = a; entered = f; held = rw e at h }
+pub enters : (p t : List ℕ) (d at : ℕ) (a r : List ℕ) → EnteredAt p d at a → Held p t a r → Enters p t d at r
+enters p t d at a r f h = record { words = a; entered = f; held = h }
 
 -- two statements
-module _ (s p t : List ℕ) (c : Context) (d at : ℕ) (o : Answer) (f : CheckedAt s p t c d at o) where
-  pub pair-first : (k place : ℕ) → o ≡ Refused k place → PairAt s p t c d at o
+module _ (s p t : List ℕ) (c : Context) (d at : ℕ) (o : ℕ) (f : CheckedAt s p t c d at o) where
+  pub pair-first : placeLimit ≤ o → PairAt s p t c d at o
   unfolding CheckedAt PairAt
-  pair-first k place e around known C x y mid end st h fit i fit′ = or-stopped _ _ mid end (reachedBy o) (f around known C x mid st h fit) k place (ap reachedBy e)
+  pair-first e around known C x y mid end st h fit i fit′ = or-stopped _ _ mid end (told o) (f around known C x mid st h fit) _ _ (refusal-told o e)
 
-  pub pair-second : (m : ℕ) (r : Answer) → o ≡ At m → CheckedAt s p t c d m r → PairAt s p t c d at r
+  pub pair-second : (r : ℕ) → o < placeLimit → CheckedAt s p t c d o r → PairAt s p t c d at r
   unfolding CheckedAt PairAt
-  pair-second m r e g around known C x y mid end st h fit i fit′ =
+  pair-second r e g around known C x y mid end st h fit i fit′ =
       let v = f around known C x mid st h fit in
-      let k : m ≡ mid = reached-is _ (flow s p around known C y) mid end (reachedBy o) v m (ap reachedBy e) in
-      g around known C y end st (rw k i) fit′ ∙ rw (or-reached _ (flow s p around known C y) mid end (reachedBy o) v m (ap reachedBy e))
+      let k : o ≡ mid = reached-is _ (flow s p around known C y) mid end (told o) v o (position-told o e) in
+      g around known C y end st (rw k i) fit′ ∙ rw (or-reached _ (flow s p around known C y) mid end (told o) v o (position-told o e))
 
 -- an accepted policy has few roles
 pub few-roles : (s : List ℕ) (n : ℕ) → Accepted s → n ≡ roles s → n ≤ roleLimit
 few-roles s n ok e = rw e (accepted-facts s ok .roles-fit)
 
-pub ready-too : (s t k : List ℕ) → Ready s t → length k ≡ tableWords → Ready s k
-ready-too s t k ready l = record { is-accepted = ready .is-accepted; long = l }
+pub ready-table : (s t a k : List ℕ) → Ready s t a → length k ≡ tableWords → Ready s k a
+ready-table s t a k ready l = record { is-accepted = ready .is-accepted; long = l; wide = ready .wide }
+
+pub ready-held : (s p t a b : List ℕ) → Ready s t a → Held p t a b → Ready s t b
+ready-held s p t a b ready h = record { is-accepted = ready .is-accepted; long = ready .long; wide = h .long }
+
+pub ready-entered : (s p t a b : List ℕ) (d at : ℕ) → Ready s t a → Enters p t d at b → Ready s t b
+ready-entered s p t a b d at ready h = record { is-accepted = ready .is-accepted; long = ready .long; wide = h .held .long }
 
 -- the branches of a query: the first by the table k and the words b, which also know it, the second by the table t
-module _ (s p k t : List ℕ) (b c : Context) (d at : ℕ) (o : Answer) (f : CheckedAt s p k b d at o) where
+module _ (s p k t : List ℕ) (b c : Context) (d at : ℕ) (o : ℕ) (f : CheckedAt s p k b d at o) where
   first-branch : (q : ModelQuery) → Knowing s p k t b c q → (around : Surroundings) (known : List ModelQuery) (C : Side → List Atom) (x : Stmt) (mid : ℕ)
       → QueryFits (roles s) q → Stands s p t c around known C → StmtAt s p d at x mid → StmtFits s p around x
-      → reachedBy o ≡ checkedTo (flow s p around (q ∷ known) C x) mid
+      → told o ≡ checkedTo (flow s p around (q ∷ known) C x) mid
   unfolding CheckedAt Knowing
   first-branch q l around known C x mid fits st h fit = f around (q ∷ known) C x mid (l around known C fits st) h fit
 
-  pub branches-first : (n place : ℕ) → o ≡ Refused n place → BothAt s p k t b c d at o
+  pub branches-first : placeLimit ≤ o → BothAt s p k t b c d at o
   unfolding BothAt BranchesAt
-  branches-first n place g q l around known C x y mid end below st h fit h′ fit′ =
-      or-stopped _ _ mid end (reachedBy o) (first-branch q l around known C x mid below st h fit) n place (ap reachedBy g)
+  branches-first g q l around known C x y mid end below st h fit h′ fit′ =
+      or-stopped _ _ mid end (told o) (first-branch q l around known C x mid below st h fit) _ _ (refusal-told o g)
 
-  pub branches-second : (m : ℕ) (r : Answer) → o ≡ At m → CheckedAt s p t c d m r → BothAt s p k t b c d at r
+  pub branches-second : (r : ℕ) → o < placeLimit → CheckedAt s p t c d o r → BothAt s p k t b c d at r
   unfolding BothAt BranchesAt CheckedAt
-  branches-second m r g w q l around known C x y mid end below st h fit h′ fit′ =
+  branches-second r g w q l around known C x y mid end below st h fit h′ fit′ =
       let v = first-branch q l around known C x mid below st h fit in
-      let e : m ≡ mid = reached-is _ (flow s p around known C y) mid end (reachedBy o) v m (ap reachedBy g) in
-      w around known C y end st (rw e h′) fit′ ∙ rw (or-reached _ (flow s p around known C y) mid end (reachedBy o) v m (ap reachedBy g))
+      let e : o ≡ mid = reached-is _ (flow s p around known C y) mid end (told o) v o (position-told o g) in
+      w around known C y end st (rw e h′) fit′ ∙ rw (or-reached _ (flow s p around known C y) mid end (told o) v o (position-told o g))
 
 -- a table that knows the query too, and what an update is held to by it
 module _ (s p k t : List ℕ) (q : ModelQuery) (l : Learnt (roles s) t k q) where
-  knowing-by : (b c : Context) → b .around ≡ c .around → b .reading ≡ c .reading → b .trust ≡ c .trust
+  knowing-by : (b c : Context) → b .around ≡ c .around → b .labels ≡ c .labels
       → ((around : Surroundings) → AroundIs p (roles s) (variables p) (c .around) around → MeetsAre p t (c .meets) around → MeetsAre p k (b .meets) around) → Knowing s p k t b c q
   unfolding Knowing Learnt
-  knowing-by b c e e₁ e₂ m around known C fits st = record {
+  knowing-by b c e f m around known C fits st = record {
     is-accepted = st .is-accepted;
+    short = st .short;
     few = st .few;
     labels = st .labels;
     knows = l s known (st .is-accepted) refl fits (st .knows);
     surrounded = rw e (st .surrounded);
     met = m around (st .surrounded) (st .met);
-    context = context-same (roles s) c b C e₁ e₂ (st .context);
+    context = rw f (st .context);
   }
 
-  knowing-learnt : (b c : Context) → Held p k c b → Knowing s p k t b c q
-  knowing-learnt b c h =
-      rw (h .is) (knowing-by (withMeets c (h .by)) c refl refl refl (λ around i _. meets-are p k (roles s) (variables p) (c .around) (h .by) around i (h .right)))
+  knowing-learnt : (a b : List ℕ) (rs ts ws : ℕ) → Held p k a b → Knowing s p k t (contextOf b rs ts ws) (contextOf a rs ts ws) q
+  knowing-learnt a b rs ts ws h =
+      knowing-by (contextOf b rs ts ws) (contextOf a rs ts ws) (h .same) refl (λ around i _. meets-are p k (roles s) (variables p) (aroundOf a) (meetsOf b) around i (h .right))
 
-pub held-both : (s p k t : List ℕ) (b c : Context) (d at : ℕ) (r : Answer) → Held p k c b → BothAt s p k t b c d at r → LearntAt s p k t c d at r
+pub held-both : (s p k t a b : List ℕ) (rs ts ws d at : ℕ) (r : ℕ) → Held p k a b → BothAt s p k t (contextOf b rs ts ws) (contextOf a rs ts ws) d at r → LearntAt s p k t (contextOf a rs ts ws) d at r
 unfolding BothAt LearntAt
-held-both s p k t b c d at r h f q l = f q (knowing-learnt s p k t q l b c h)
+held-both s p k t a b rs ts ws d at r h f q l = f q (knowing-learnt s p k t q l a b rs ts ws h)
 
 knowing-same : (s p t : List ℕ) (q : ModelQuery) → Learnt (roles s) t t q → (c : Context) → Knowing s p t t c c q
-knowing-same s p t q l c = knowing-by s p t t q l c c refl refl refl (λ around _ h. h)
+knowing-same s p t q l c = knowing-by s p t t q l c c refl refl (λ around _ h. h)
 
 -- a query in a transaction that writes nothing
-asked-idle : (s p t : List ℕ) (c : Context) (d at asked : ℕ) (b : Bool) (r : Answer) → FindsIdle c b → b ≡ true → PairAt s p t c d at r → BranchesOf s p t c d at asked r
+asked-idle : (s p t : List ℕ) (c : Context) (d at asked : ℕ) (b : Bool) (r : ℕ) → FindsIdle (c .around) b → b ≡ true → PairAt s p t c d at r → BranchesOf s p t c d at asked r
 unfolding FindsIdle PairAt BranchesOf BranchesAt Writes
 asked-idle s p t c d at asked b r f z g q end i around known C x y mid after below st h fit h′ fit′ =
     let idle = f z in
@@ -437,17 +469,17 @@ asked-idle s p t c d at asked b r f z g q end i around known C x y mid after bel
     g around known C x y mid after st h fit h′ fit′ ∙ ap (λ (v : Verdict). checkedTo (orElse v (flow s p around known C y)) after) same
 
 -- a query that the table knows
-asked-known : (s p t : List ℕ) (c : Context) (d at asked : ℕ) (b : Bool) (r : Answer) → KnownAt p t asked b → b ≡ true → BothAt s p t t c c d at r → BranchesOf s p t c d at asked r
+asked-known : (s p t : List ℕ) (c : Context) (d at asked : ℕ) (b : Bool) (r : ℕ) → KnownAt p t asked b → b ≡ true → BothAt s p t t c c d at r → BranchesOf s p t c d at asked r
 unfolding KnownAt BothAt BranchesOf
 asked-known s p t c d at asked b r g z h q end i = h q (knowing-same s p t q (known-learnt (roles s) t q b (g (roles s) q end i) z) c)
 
 -- with a table of its own
 module _ (s p t : List ℕ) (c : Context) (d at asked : ℕ) (o : QueryOf) (f : QueryAt p asked o) where
-  pub learnt-none : (r : Answer) → o ≡ query.No → BranchesOf s p t c d at asked r
+  pub learnt-none : (r : ℕ) → o ≡ query.No → BranchesOf s p t c d at asked r
   unfolding QueryAt BranchesOf
   learnt-none r g q end h = query-not o q (f (roles s) q end h) g
 
-  pub learnt-both : (a b : CodeAtom) (n : ℕ) (k : List ℕ) (r : Answer) → o ≡ query.Is a b → n ≡ roles s → Learnt n t k (queryOf a b) → LearntAt s p k t c d at r → BranchesOf s p t c d at asked r
+  pub learnt-both : (a b : CodeAtom) (n : ℕ) (k : List ℕ) (r : ℕ) → o ≡ query.Is a b → n ≡ roles s → Learnt n t k (queryOf a b) → LearntAt s p k t c d at r → BranchesOf s p t c d at asked r
   unfolding QueryAt LearntAt BranchesOf
   learnt-both a b n k r g e l w q end h =
       w q (learnt-same t k e (query-is o q a b (f (roles s) q end h) g) l)
@@ -456,14 +488,12 @@ module _ (s p t : List ℕ) (c : Context) (d at asked : ℕ) (o : QueryOf) (f : 
       learnt-same t k e f l = rw (← e, ← f) l
 
 -- a skip is never refused
-pub skip-code : (p : List ℕ) (at n : ℕ) → n ≡ byte p at → eqb n 0 ≡ eqb (byte p at) 0
-skip-code p at n e = rw e
-
-skip-checked : (s p t : List ℕ) (c : Context) (d at q : ℕ) → byte p at ≡ 0 → q ≡ ahead p at 1 → CheckedAt s p t c d at (At q)
+skip-checked : (s p t : List ℕ) (c : Context) (d at q : ℕ) → byte p at ≡ 0 → q ≡ ahead p at 1 → CheckedAt s p t c d at q
 unfolding CheckedAt flow checkedTo
 skip-checked s p t c d at q code e around known C x end st h fit =
     let u = skip-parts p (principals s) (roles s) (variables p) d at h code in
-    rw (u .0, u .1, e, ahead-is p at 1 (omega (arith, stmt-there p (principals s) (roles s) (variables p) d at h)))
+    let qe : q ≡ end = e ∙ ahead-is p at 1 (omega (arith, stmt-there p (principals s) (roles s) (variables p) d at h)) ∙ sym (u .1) in
+    rw (u .0, qe) (position-told end (low-end st d at h))
 
 -- a statement, by its code
 module _ (s p t : List ℕ) (c : Context) (d at : ℕ) where
@@ -488,165 +518,182 @@ module _ (s p t : List ℕ) (c : Context) (d at : ℕ) where
       record { rest = u .parts; rest-read = rw (le, ne) (u .parts-read); rest-fits = rw (u .is) at fit; same = ap (flow s p around known C) (u .is) }
 
   module _ (left next : ℕ) (inv : Blocking left next) where
-    pub block-done : left ≤ 0 → CodedAt Block s p t c d at (At next)
+    pub block-done : left ≤ 0 → CodedAt Block s p t c d at next
     unfolding Blocking CodedAt CheckedAt checkedTo blockOf flow
     block-done none code around known C x end st h fit =
         let u = inv around known C x end code st h fit in
         let v = many-none _ left next (u .rest-read) none in
-        rw (u .same, v .0, v .1)
+        let ne : next ≡ end = sym (v .1) in
+        rw (u .same, v .0, ne) (position-told end (low-end st d at h))
 
-    module _ (some : 0 < left) (o : Answer) (f : CheckedAt s p t c (d - 1) next o) where
-      pub block-refused : (k place : ℕ) → o ≡ Refused k place → CodedAt Block s p t c d at o
+    module _ (some : 0 < left) (o : ℕ) (f : CheckedAt s p t c (d - 1) next o) where
+      pub block-refused : placeLimit ≤ o → CodedAt Block s p t c d at o
       unfolding Blocking CodedAt CheckedAt blockOf flow
-      block-refused k place e code around known C x end st h fit =
+      block-refused e code around known C x end st h fit =
           let u = inv around known C x end code st h fit in
           let v = many-more _ left next (u .rest-read) some in
           let w = block-fits s p around (v .head) (v .tail) (rw (v .is) at (u .rest-fits)) in
-          rw (u .same, v .is) (or-stopped _ _ (v .mid) end (reachedBy o) (f around known C (v .head) (v .mid) st (v .head-read) (w .0)) k place (ap reachedBy e))
+          rw (u .same, v .is) (or-stopped _ _ (v .mid) end (told o) (f around known C (v .head) (v .mid) st (v .head-read) (w .0)) _ _ (refusal-told o e))
 
-      pub block-more : (m : ℕ) → o ≡ At m → Blocking (left - 1) m
+      pub block-more : o < placeLimit → Blocking (left - 1) o
       unfolding Blocking CheckedAt blockOf flow
-      block-more m e around known C x end code st h fit =
+      block-more e around known C x end code st h fit =
           let u = inv around known C x end code st h fit in
           let v = many-more _ left next (u .rest-read) some in
           let w = block-fits s p around (v .head) (v .tail) (rw (v .is) at (u .rest-fits)) in
           let g = f around known C (v .head) (v .mid) st (v .head-read) (w .0) in
-          let k : m ≡ v .mid = reached-is _ fine (v .mid) end (reachedBy o) g m (ap reachedBy e) in
+          let k : o ≡ v .mid = reached-is _ fine (v .mid) end (told o) g o (position-told o e) in
           record {
             rest = v .tail;
             rest-read = rw k (v .tail-read);
             rest-fits = w .1;
-            same = u .same ∙ ap (λ (ys : List Stmt). flow s p around known C (blockOf ys)) (v .is) ∙ or-reached _ (flow s p around known C (blockOf (v .tail))) (v .mid) end (reachedBy o) g m (ap reachedBy e);
+            same = u .same ∙ ap (λ (ys : List Stmt). flow s p around known C (blockOf ys)) (v .is) ∙ or-reached _ (flow s p around known C (blockOf (v .tail))) (v .mid) end (told o) g o (position-told o e);
           }
 
     pub block-skip : (m : ℕ) (b : Bool) → 0 < left → b ≡ eqb (byte p next) 0 → b ≡ true → m ≡ ahead p next 1 → Blocking (left - 1) m
-    block-skip m b some e h k = block-more some (At m) (skip-checked s p t c (d - 1) next m (eqb-true (byte p next) 0 (sym e ∙ h)) k) m refl
+    unfolding Blocking
+    block-skip m b some e h k around known C x end code st i fit =
+        let low : m < placeLimit = low-next around known C x end code st i fit in
+        block-more some m (skip-checked s p t c (d - 1) next m (eqb-true (byte p next) 0 (sym e ∙ h)) k) low around known C x end code st i fit
+      where
+        low-next : (around : Surroundings) (known : List ModelQuery) (C : Side → List Atom) (x : Stmt) (end : ℕ) → byte p at ≡ 2 → Stands s p t c around known C → StmtAt s p d at x end → StmtFits s p around x → m < placeLimit
+        low-next around known C x end code st i fit =
+            let u = inv around known C x end code st i fit in
+            let v = many-more _ left next (u .rest-read) some in
+            let z : m ≡ next + 1 = k ∙ ahead-is p next 1 (omega (arith, stmt-there p (principals s) (roles s) (variables p) (d - 1) next (v .head-read))) in
+            omega (arith, st .short, stmt-there p (principals s) (roles s) (variables p) (d - 1) next (v .head-read))
 
   -- an if, a while
-  module _ (q : ℕ) (l : Labels) (k : Context) (r : Answer) (e : q ≡ ahead p at 1) (f : LabelsAt p expressionDepth q l) (g : k ≡ withLabels c l) where
-    pub if-checked : PairAt s p t k (d - 1) (l .next) r → CodedAt If s p t c d at r
+  module _ (q : ℕ) (l : List ℕ) (next : ℕ) (r : ℕ) (e : q ≡ ahead p at 1) (f : LabelsAt p expressionDepth q (c .labels .readers ∷ c .labels .trusters ∷ []) l next) where
+    abbrev labelled : Context
+    labelled = record { around = c .around; meets = c .meets; labels = labelsOf (getD l 0 0) (getD l 1 0) (c .labels .asked) }
+
+    pub if-checked : PairAt s p t labelled (d - 1) next r → CodedAt If s p t c d at r
     unfolding CodedAt CheckedAt PairAt flow
     if-checked h code around known C x end st i fit =
         let u = if-parts p (principals s) (roles s) (variables p) d at i code in
         let qe : q ≡ at + 1 = e ∙ ahead-is p at 1 (omega (arith, stmt-there p (principals s) (roles s) (variables p) d at i)) in
-        let le : l ≡ exprLabels p (u .test) (u .start) = labels-are st q l (u .test) (u .start) f (rw qe (u .test-read)) in
+        let le = labels-are st q _ l next (u .test) (u .start) f (rw qe (u .test-read)) in
         let w = rw (u .is) at (fit .0) in
         let (wl, wr) = writes-if around (u .test) (u .left) (u .right) (rw (u .is) at (fit .1)) in
+        let b = added-context p (u .test) (c .labels .readers ∷ c .labels .trusters ∷ []) l (le .1) (roles s) (c .labels .asked) (λ side. exprLabel p side (u .test) ++ C side) (under-expr st (u .test) (w .0)) in
         rw (u .is)
         (h around known (λ side. exprLabel p side (u .test) ++ C side) (u .left) (u .right) (u .mid) end
-        (under-expr st l k (u .test) (u .start) le g (w .0)) (rw le (u .left-read)) (w .1, wl) (u .right-read) (w .2, wr))
+        (stands-labels st _ b) (rw (le .0) (u .left-read)) (w .1, wl) (u .right-read) (w .2, wr))
 
-    pub while-checked : CheckedAt s p t k (d - 1) (l .next) r → CodedAt While s p t c d at r
+    pub while-checked : CheckedAt s p t labelled (d - 1) next r → CodedAt While s p t c d at r
     unfolding CodedAt CheckedAt flow
     while-checked h code around known C x end st i fit =
         let u = while-parts p (principals s) (roles s) (variables p) d at i code in
         let qe : q ≡ at + 1 = e ∙ ahead-is p at 1 (omega (arith, stmt-there p (principals s) (roles s) (variables p) d at i)) in
-        let le : l ≡ exprLabels p (u .test) (u .start) = labels-are st q l (u .test) (u .start) f (rw qe (u .test-read)) in
+        let le = labels-are st q _ l next (u .test) (u .start) f (rw qe (u .test-read)) in
         let w = rw (u .is) at (fit .0) in
         let wb = writes-while around (u .test) (u .body) (rw (u .is) at (fit .1)) in
+        let b = added-context p (u .test) (c .labels .readers ∷ c .labels .trusters ∷ []) l (le .1) (roles s) (c .labels .asked) (λ side. exprLabel p side (u .test) ++ C side) (under-expr st (u .test) (w .0)) in
         rw (u .is)
         (h around known (λ side. exprLabel p side (u .test) ++ C side) (u .body) end
-        (under-expr st l k (u .test) (u .start) le g (w .0)) (rw le (u .body-read)) (w .1, wb))
+        (stands-labels st _ b) (rw (le .0) (u .body-read)) (w .1, wb))
 
   -- a query
-  pub query-outside : c .around .inside ≡ false → CodedAt Query s p t c d at (Refused 15 at)
+  pub query-outside : (i : Bool) (r : ℕ) → i ≡ c .around .inside → i ≡ false → r ≡ refusal 15 at → CodedAt Query s p t c d at r
   unfolding CodedAt CheckedAt flow checkedTo
-  query-outside e code around known C x end st h fit =
+  query-outside i r f e re code around known C x end st h fit =
       let u = branch-parts p (principals s) (roles s) (variables p) d at h code in
-      rw (u .is, within-none p (roles s) (variables p) (c .around) around (st .surrounded) e)
+      rw (u .is, within-none p (roles s) (variables p) (c .around) around (st .surrounded) (sym f ∙ e)) (stopped-told r 15 at re (omega arith) (low-start st d at h))
 
-  module _ (e : c .around .inside ≡ true) (m : ℕ) (l : Bool) (w : m ≡ ahead p at 1) (listed : ListedAt p (c .around .count) (c .around .list) m l) where
+  module _ (i : Bool) (is : i ≡ c .around .inside) (e : i ≡ true) (m n place : ℕ) (l : Bool) (w : m ≡ ahead p at 1) (ne : n ≡ c .around .count) (pe : place ≡ c .around .list) (listed : ListedAt p n place m l) where
     listed-is : (asked : ModelQuery) (qs : List ModelQuery) (end after : ℕ) → at + 1 + 2 ≤ length p → readMany (readQuery p (roles s)) (c .around .count) (c .around .list) ≡ got qs end → readQuery p (roles s) (at + 1) ≡ got asked after → l ≡ listedIn asked qs
     unfolding ListedAt
     listed-is asked qs end after room h k =
         let me : m ≡ at + 1 = w ∙ ahead-is p at 1 (omega arith) in
-        listed (roles s) qs asked end after h (rw me k)
+        listed (roles s) qs asked end after (rw (ne, pe) h) (rw me k)
 
-    pub query-unlisted : l ≡ false → CodedAt Query s p t c d at (Refused 15 at)
+    pub query-unlisted : (r : ℕ) → l ≡ false → r ≡ refusal 15 at → CodedAt Query s p t c d at r
     unfolding CodedAt CheckedAt flow checkedTo
-    query-unlisted k code around known C x end st h fit =
+    query-unlisted r k re code around known C x end st h fit =
         let u = branch-parts p (principals s) (roles s) (variables p) d at h code in
-        let v = within-one p (roles s) (variables p) (c .around) around (st .surrounded) e in
+        let v = within-one p (roles s) (variables p) (c .around) around (st .surrounded) (sym is ∙ e) in
         let b = listed-is (u .asked) (v .listed) (v .parts .end) (at + 3) (u .asked-parts .inside) (v .parts .listed-read) (u .asked-read) in
-        rw (u .is, v .is, sym b ∙ k)
+        rw (u .is, v .is, sym b ∙ k) (stopped-told r 15 at re (omega arith) (low-start st d at h))
 
     -- listed: its label is joined to the context of both branches
-    module _ (le : l ≡ true) (named start : ℕ) (k : Context) (es : start ≡ ahead p at 3) (f : QueryRolesAt p m named) (ek : k ≡ withNamed c named) where
-      query-by : (r : Answer) → ((q : ModelQuery) (end : ℕ) → readQuery p (roles s) m ≡ got q end → BranchesAt s p t k (d - 1) start q r) → CodedAt Query s p t c d at r
+    module _ (le : l ≡ true) (named start : ℕ) (es : start ≡ ahead p at 3) (f : QueryRolesAt p m named) where
+      abbrev asking : Context
+      asking = record { around = c .around; meets = c .meets; labels = withNamed (c .labels) named }
+
+      query-by : (r : ℕ) → ((q : ModelQuery) (end : ℕ) → readQuery p (roles s) m ≡ got q end → BranchesAt s p t asking (d - 1) start q r) → CodedAt Query s p t c d at r
       unfolding CodedAt CheckedAt BranchesAt QueryRolesAt flow
       query-by r g code around known C x end st h fit =
           let u = branch-parts p (principals s) (roles s) (variables p) d at h code in
-          let v = within-one p (roles s) (variables p) (c .around) around (st .surrounded) e in
+          let v = within-one p (roles s) (variables p) (c .around) around (st .surrounded) (sym is ∙ e) in
           let b = listed-is (u .asked) (v .listed) (v .parts .end) (at + 3) (u .asked-parts .inside) (v .parts .listed-read) (u .asked-read) in
           let fits = rw (u .is) at (fit .0) in
           let (wl, wr) = writes-query around at (u .asked) (u .left) (u .right) (rw (u .is) at (fit .1)) in
           let me : m ≡ at + 1 = w ∙ ahead-is p at 1 (omega (arith, u .asked-parts .inside)) in
           let asked : readQuery p (roles s) m ≡ got (u .asked) (at + 3) = rw me (u .asked-read) in
-          let kc : k ≡ withNamed c (queryRoles (u .asked)) = ek ∙ ap (withNamed c) (f (roles s) (u .asked) (at + 3) asked) in
-          let cq : ContextIs (roles s) k (λ side. queryLabel side (u .asked) ++ C side) = rw kc (context-query (roles s) c C (st .context) (roles-few st) (u .asked) (fits .0)) in
+          let cq : ContextIs (roles s) (withNamed (c .labels) named) (λ side. queryLabel side (u .asked) ++ C side) = rw (f (roles s) (u .asked) (at + 3) asked) (context-query (roles s) (c .labels) C (st .context) (roles-few st) (u .asked) (fits .0)) in
           let se : start ≡ at + 3 = es ∙ ahead-is p at 3 (omega (arith, u .asked-parts .inside)) in
           rw (u .is, v .is, sym b ∙ le)
           (rw (v .is) at (g (u .asked) (at + 3) asked around known (λ side. queryLabel side (u .asked) ++ C side) (u .left) (u .right) (u .mid) end
-          (fits .0) (stands-context st (ap (λ (c : Context). c .around) kc) (ap (λ (c : Context). c .meets) kc) cq) (rw se (u .left-read)) (fits .1, wl) (u .right-read) (fits .2, wr)))
+          (fits .0) (stands-labels st _ cq) (rw se (u .left-read)) (fits .1, wl) (u .right-read) (fits .2, wr)))
 
-      pub query-listed : (r : Answer) → BranchesOf s p t k (d - 1) start m r → CodedAt Query s p t c d at r
+      pub query-listed : (r : ℕ) → BranchesOf s p t asking (d - 1) start m r → CodedAt Query s p t c d at r
       unfolding BranchesOf
       query-listed r h = query-by r h
 
-      pub query-idle : (b : Bool) (r : Answer) → FindsIdle k b → b ≡ true → PairAt s p t k (d - 1) start r → CodedAt Query s p t c d at r
-      query-idle b r f z g = query-listed r (asked-idle s p t k (d - 1) start m b r f z g)
+      pub query-idle : (b : Bool) (r : ℕ) → FindsIdle (c .around) b → b ≡ true → PairAt s p t asking (d - 1) start r → CodedAt Query s p t c d at r
+      query-idle b r f z g = query-listed r (asked-idle s p t asking (d - 1) start m b r f z g)
 
-      pub query-known : (b : Bool) (r : Answer) → KnownAt p t m b → b ≡ true → BothAt s p t t k k (d - 1) start r → CodedAt Query s p t c d at r
-      query-known b r f z g = query-listed r (asked-known s p t k (d - 1) start m b r f z g)
+      pub query-known : (b : Bool) (r : ℕ) → KnownAt p t m b → b ≡ true → BothAt s p t t asking asking (d - 1) start r → CodedAt Query s p t c d at r
+      query-known b r f z g = query-listed r (asked-known s p t asking (d - 1) start m b r f z g)
 
   -- a transaction
-  pub transaction-nested : c .around .inside ≡ true → CodedAt Transaction s p t c d at (Refused 15 at)
+  pub transaction-nested : (i : Bool) (r : ℕ) → i ≡ c .around .inside → i ≡ true → r ≡ refusal 15 at → CodedAt Transaction s p t c d at r
   unfolding CodedAt CheckedAt flow checkedTo
-  transaction-nested e code around known C x end st h fit =
+  transaction-nested i r f e re code around known C x end st h fit =
       let u = transaction-parts p (principals s) (roles s) (variables p) d at h code in
-      let w = within-one p (roles s) (variables p) (c .around) around (st .surrounded) e in
-      rw (u .is, w .is)
+      let w = within-one p (roles s) (variables p) (c .around) around (st .surrounded) (sym f ∙ e) in
+      rw (u .is, w .is) (stopped-told r 15 at re (omega arith) (low-start st d at h))
 
-  pub transaction-body : (m : ℕ) (k : Context) (r : Answer) → c .around .inside ≡ false → m ≡ afterList p at 2 → Enters p t c (d - 1) at k → CheckedAt s p t k (d - 1) m r → CodedAt Transaction s p t c d at r
+  pub transaction-body : (m : ℕ) (a : List ℕ) (r : ℕ) (i : Bool) → i ≡ c .around .inside → i ≡ false → m ≡ afterList p at 2 → Enters p t (d - 1) at a
+      → CheckedAt s p t (contextOf a (c .labels .readers) (c .labels .trusters) (c .labels .asked)) (d - 1) m r → CodedAt Transaction s p t c d at r
   unfolding CodedAt CheckedAt EnteredAt flow
-  transaction-body m k r e me f g code around known C x end st h fit =
+  transaction-body m a r i ie e me f g code around known C x end st h fit =
       let u = transaction-parts p (principals s) (roles s) (variables p) d at h code in
-      let w = within-none p (roles s) (variables p) (c .around) around (st .surrounded) e in
+      let w = within-none p (roles s) (variables p) (c .around) around (st .surrounded) (sym ie ∙ e) in
       let fits = rw (u .is) at (fit .0) in
-      let b = f .around in
       let v = f .entered (principals s) (roles s) (variables p) (u .listed) (u .body) end (roles-few st) (st .few) (u .inside) (u .listed-read) (fits .0) (u .body-read) (fits .1) in
-      let z = f .held .by in
-      let ke : k ≡ withMeets (within c b) z = f .held .is in
       let mm : m ≡ bodyStart p at = me ∙ list-is p at 2 (u .inside) in
       rw (u .is, w)
       (g (inside (u .listed) (assigned (u .body)) (mutated (u .body))) known C (u .body) end (record {
         is-accepted = st .is-accepted;
+        short = st .short;
         few = st .few;
         labels = st .labels;
         knows = st .knows;
-        surrounded = rw ke v;
-        met = rw ke (met-same p t z (v .variables-are) (v .roles-are) (f .held .right));
-        context = context-same (roles s) c k C (rw ke) (rw ke) (st .context);
+        surrounded = rw (f .held .same) v;
+        met = met-same p t (meetsOf a) (v .variables-are) (v .roles-are) (f .held .right);
+        context = st .context;
       }) (rw mm (u .body-read)) (fits .1, writes-body (u .listed) (u .body)))
 
   -- any statement
-  pub stmt-none : (r : Answer) → d ≡ 0 → CheckedAt s p t c d at r
+  pub stmt-none : (r : ℕ) → d ≡ 0 → CheckedAt s p t c d at r
   unfolding CheckedAt
   stmt-none r e around known C x end st h fit = absurd (stmt-deep p (principals s) (roles s) (variables p) d at h e)
 
   module _ (o : StatementOf) (i : o ≡ statementOf (byte p at)) where
-    pub stmt-unknown : (r : Answer) → o ≡ statement.No → CheckedAt s p t c d at r
+    pub stmt-unknown : (r : ℕ) → o ≡ statement.No → CheckedAt s p t c d at r
     unfolding CheckedAt
     stmt-unknown r k around known C x end st h fit = absurd (omega (arith, statement-none (byte p at) o i k, stmt-known p (principals s) (roles s) (variables p) d at h))
 
     module _ (code : Statement) (j : o ≡ statement.Is code) where
-      pub stmt-skip : (q : ℕ) → code ≡ Skip → q ≡ ahead p at 1 → CheckedAt s p t c d at (At q)
+      pub stmt-skip : (q : ℕ) → code ≡ Skip → q ≡ ahead p at 1 → CheckedAt s p t c d at q
       stmt-skip q k e = skip-checked s p t c d at q (statement-byte (byte p at) o i code j ∙ ap statementByte k) e
 
-      module _ (r : Answer) where
-        pub stmt-assign : code ≡ Assign → AssignAt p t c at r → CheckedAt s p t c d at r
+      module _ (r : ℕ) where
+        pub stmt-assign : code ≡ Assign → AssignAt p t (c .labels) at r → CheckedAt s p t c d at r
         unfolding AssignAt
-        stmt-assign k f = f s d (statement-byte (byte p at) o i code j ∙ ap statementByte k)
+        stmt-assign k f = f s c d refl (statement-byte (byte p at) o i code j ∙ ap statementByte k)
 
         pub stmt-update : code ≡ Update → UpdateAt s p c at r → CheckedAt s p t c d at r
         unfolding UpdateAt

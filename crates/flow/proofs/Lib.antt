@@ -1,5 +1,2 @@
-mod ContextLaws
-mod JudgeLaws
-mod ListLaws
 mod CheckLaws
 mod VerdictLaws

@@ -1,11 +1,13 @@
 -- A law for each return of verdict.rt: a program that was read stands for its tree from the first byte of its body on.
 use mathlib.Core.Path.{_≡_, refl, sym, ap, _∙_}
-use Prim.Native.Nat.{ℕ, _+_, _*_}
+use Prim.Native.Nat.{ℕ, _+_, _*_, _/_, _%_, _<_, _≤_}
 use native.Mathlib.Omega.{arith}
 use mathlib.Core.List.{List, []}
-use borrow.Author.Tests.{ne-eqb}
-use Rattle.model.specs.Limits.{statementDepth}
-use Rattle.model.specs.Number.{Verdict as Judgement, fine, refused}
+use lib.ListN.{length, getD}
+use native.Mathlib.Decide.{decLt}
+use borrow.Author.Tests.{ne-eqb, lt-leb}
+use Rattle.model.specs.Limits.{programBytes, statementDepth}
+use Rattle.model.specs.Number.{Verdict as Judgement, fine, refused, programLength}
 use Rattle.model.specs.Policy.{reading, trust, principals, roles, policyNumber, Accepted}
 use Rattle.model.specs.Syntax.{Stmt}
 use Rattle.model.specs.Program.{Read as Reading, got, bad, variables, bodyAt, readProgram}
@@ -14,15 +16,15 @@ use Rattle.model.proofs.Reading.{ProgramParts, program-parts}
 use Rattle.order.specs.Table.{Knows}
 use Rattle.program.specs.declared.answer.Answer.{Answer}
 use Rattle.program.specs.declared.answer.Answer.the-variants as answer
-use Rattle.program.specs.Answer.{reached, stopped, reachedBy, endOf}
+use Rattle.program.specs.Answer.{reached, stopped, reachedBy, placeLimit, told, endOf}
+use Rattle.program.proofs.AnswerLaws.{position-told, refusal-told}
 use Rattle.gathered.specs.Labels.{LabelsBelow}
-use Rattle.flow.specs.declared.context.Context.{Context}
 use Rattle.flow.specs.declared.verdict.Verdict.{Verdict}
 use Rattle.flow.specs.declared.verdict.Verdict.the-variants.{Fine, Refused}
-use Rattle.flow.specs.Context.{noContext}
+use Rattle.context.specs.Context.{aroundWords, contextOf}
 use Rattle.flow.specs.Check.{Writes, checkedTo, Ready, CheckedAt}
 use Rattle.flow.specs.Verdict.{verdictOf, BodyVerdict}
-use Rattle.flow.proofs.ContextLaws.{context-none}
+use Rattle.context.proofs.ContextLaws.{context-none}
 use Rattle.flow.proofs.CheckLaws.{reached-not}
 
 -- the labels of a program that was read
@@ -31,38 +33,48 @@ unfolding LabelsBelow
 labels-below p P R u reading v l n = u .labels (2 * v) (omega arith) n
 labels-below p P R u trust v l n = let k : 6 + (2 * v + 1) ≡ 7 + 2 * v = omega arith in rw k at (u .labels (2 * v + 1) (omega arith)) n
 
--- the check may begin
-pub body-ready : (s t : List ℕ) → Accepted s → Knows s [] t → Ready s t
-body-ready s t ok k = record { is-accepted = ok; long = k .long }
+-- so long as a program may be
+program-short : (p : List ℕ) (P R : ℕ) {x : Stmt} {end : ℕ} → readProgram p P R ≡ got x end → length p < placeLimit
+unfolding readProgram
+program-short p P R {x} {end} h = go (decLt programBytes (length p))
+  where
+    go : Dec (programBytes < length p) → length p < placeLimit
+    go (yes l) = let z : bad programLength programBytes ≡ got x end = rw (lt-leb (length p) programBytes l) at h in (let q : _≡_ {A = ℕ} 0 1 = cc in omega arith)
+    go (no n) = omega arith
 
-module _ (s p t : List ℕ) (n start : ℕ) (c : Context) (ok : Accepted s) (k : Knows s [] t) (e₁ : n ≡ variables p) (e₂ : start ≡ bodyAt n) (ec : c ≡ noContext) (o : Answer)
-    (f : CheckedAt s p t c statementDepth start o) where
-  body-is : (x : Stmt) (end : ℕ) → readProgram p (principals s) (roles s) ≡ got x end → reachedBy o ≡ checkedTo (flow s p outside [] (λ side. []) x) end
+-- the check may begin
+pub body-ready : (s t a : List ℕ) → Accepted s → Knows s [] t → length a ≡ aroundWords → Ready s t a
+body-ready s t a ok k l = record { is-accepted = ok; long = k .long; wide = l }
+
+module _ (s p t : List ℕ) (n start : ℕ) (a : List ℕ) (ok : Accepted s) (k : Knows s [] t) (e₁ : n ≡ variables p) (e₂ : start ≡ bodyAt n) (ea : getD a 0 0 ≡ 0) (o : ℕ)
+    (f : CheckedAt s p t (contextOf a 0 0 0) statementDepth start o) where
+  body-is : (x : Stmt) (end : ℕ) → readProgram p (principals s) (roles s) ≡ got x end → told o ≡ checkedTo (flow s p outside [] (λ side. []) x) end
   unfolding CheckedAt Writes
   body-is x end h =
       let u = program-parts p (principals s) (roles s) h in
       let at : start ≡ 6 + 2 * variables p = omega arith in
       f outside [] (λ side. []) x end (record {
         is-accepted = ok;
+        short = program-short p (principals s) (roles s) h;
         few = u .few;
         labels = labels-below p (principals s) (roles s) u;
         knows = k;
-        surrounded = rw ec refl;
+        surrounded = rw ea;
         met = tt;
-        context = rw ec (context-none (roles s));
+        context = context-none (roles s);
       }) (rw at (u .body-read)) (u .fits, tt)
 
-  pub body-fine : (m : ℕ) → o ≡ answer.At m → BodyVerdict s p Fine
+  pub body-fine : o < placeLimit → BodyVerdict s p Fine
   unfolding BodyVerdict checkedTo
-  body-fine m g x end h = go (flow s p outside [] (λ side. []) x) (ap reachedBy (sym g) ∙ body-is x end h)
+  body-fine g x end h = go (flow s p outside [] (λ side. []) x) (sym (position-told o g) ∙ body-is x end h)
     where
-      go : (v : Judgement) → reached m ≡ checkedTo v end → fine ≡ v
+      go : (v : Judgement) → reached o ≡ checkedTo v end → fine ≡ v
       go fine e = refl
       go (refused n place) e = reached-not e
 
-  pub body-refused : (l place : ℕ) → o ≡ answer.Refused l place → BodyVerdict s p (Refused l place)
+  pub body-refused : (l place : ℕ) → placeLimit ≤ o → l ≡ o / placeLimit → place ≡ o % placeLimit → BodyVerdict s p (Refused l place)
   unfolding BodyVerdict checkedTo
-  body-refused l place g x end h = go (flow s p outside [] (λ side. []) x) (ap reachedBy (sym g) ∙ body-is x end h)
+  body-refused l place g e f x end h = go (flow s p outside [] (λ side. []) x) (rw (e, f) (sym (refusal-told o g)) ∙ body-is x end h)
     where
       go : (v : Judgement) → stopped l place ≡ checkedTo v end → refused l place ≡ v
       go fine e = reached-not (sym e)

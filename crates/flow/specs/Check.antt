@@ -1,6 +1,6 @@
 -- What the check of a statement answers: the flow rules' verdict of the tree that stands at a position, and where it ends.
 use mathlib.Core.Path.{_≡_}
-use Prim.Native.Nat.{ℕ, _+_, _*_, _≤_}
+use Prim.Native.Nat.{ℕ, _+_, _*_, _<_, _≤_}
 use mathlib.Core.List.{List, _∷_, List·Memᴰ}
 use mathlib.Core.Bool.{true, false, cond}
 use lib.Dec.{eqb}
@@ -14,16 +14,12 @@ use Rattle.model.specs.Program.{got, variables, readMany, readQuery, readStmt}
 use Rattle.model.specs.Fits.{Each, QueryFits, Fits}
 use Rattle.model.specs.Flow.{Around as Surroundings, outside, inside, assigned, mutated, flow}
 use Rattle.order.specs.Table.{tableWords, Knows, listRoles, Learnt}
-use Rattle.program.specs.declared.answer.Answer.{Answer}
 use Rattle.program.specs.declared.codes.Statement.{Statement}
-use Rattle.program.specs.Answer.{Reached, reached, stopped, reachedBy}
+use Rattle.program.specs.Answer.{Reached, reached, stopped, placeLimit, refusal, told}
 use Rattle.program.specs.Codes.{statementByte}
 use Rattle.gathered.specs.Labels.{LabelsBelow}
-use Rattle.flow.specs.declared.context.Around.{Around}
-use Rattle.flow.specs.declared.context.Meets.{Meets}
-use Rattle.flow.specs.declared.context.Context.{Context}
-use Rattle.flow.specs.Context.{within, ContextIs}
-use Rattle.flow.specs.Judge.{SetBelow, MetBoth, Held}
+use Rattle.context.specs.Context.{Around, Meets, Labels, Context, aroundWords, aroundOf, ContextIs}
+use Rattle.context.specs.Judge.{SetBelow, MetBoth, Held}
 
 -- how far the check of a statement came that ends at a position: by its verdict, or by a number at a place
 unfoldable pub checkedTo : Verdict → ℕ → Reached
@@ -33,10 +29,15 @@ checkedTo (refused k place) end = stopped k place
 unfoldable pub numbered : ℕ → ℕ → ℕ → Reached
 numbered k place end = cond (eqb k 0) (reached end) (stopped k place)
 
--- what the checks ask for: an accepted policy, a table of the right length
-pub record Ready (s t : List ℕ) : Type 0 where
+-- the same as a word
+unfoldable pub numberedWord : ℕ → ℕ → ℕ → ℕ
+numberedWord k place end = cond (eqb k 0) end (refusal k place)
+
+-- what the checks ask for: an accepted policy, a table and words around of the right length
+pub record Ready (s t a : List ℕ) : Type 0 where
   pub is-accepted : Accepted s
   pub long : length t ≡ tableWords
+  pub wide : length a ≡ aroundWords
 
 -- the code's words stand for a transaction with these listed queries, variables and roles, under a policy of R roles and in
 -- a program of vars variables
@@ -64,12 +65,13 @@ MeetsAre p t m (inside listed xs rs) = (rs ≡ 0 → ⊥) → MetBoth p t xs rs 
 -- what the code carries to a statement stands for what the rules speak of there
 pub record Stands (s p t : List ℕ) (c : Context) (around : Surroundings) (known : List Query) (C : Side → List Atom) : Type 0 where
   pub is-accepted : Accepted s
+  pub short : length p < placeLimit
   pub few : variables p ≤ variableLimit
   pub labels : LabelsBelow (roles s) p (variables p)
   pub knows : Knows s known t
   pub surrounded : AroundIs p (roles s) (variables p) (c .around) around
   pub met : MeetsAre p t (c .meets) around
-  pub context : ContextIs (roles s) c C
+  pub context : ContextIs (roles s) (c .labels) C
 
 -- the statement that was read at a position
 abbrev pub StmtAt : List ℕ → List ℕ → ℕ → ℕ → Stmt → ℕ → Type 0
@@ -85,37 +87,37 @@ abbrev pub StmtFits : List ℕ → List ℕ → Surroundings → Stmt → Type 0
 StmtFits s p around x = Fits (principals s) (roles s) (variables p) x × Writes around x
 
 -- r is the answer on the statement that stands at a position
-unfoldable pub CheckedAt : List ℕ → List ℕ → List ℕ → Context → ℕ → ℕ → Answer → Type 0
+unfoldable pub CheckedAt : List ℕ → List ℕ → List ℕ → Context → ℕ → ℕ → ℕ → Type 0
 CheckedAt s p t c depth at r =
     (around : Surroundings) (known : List Query) (C : Side → List Atom) (x : Stmt) (end : ℕ)
     → Stands s p t c around known C → StmtAt s p depth at x end → StmtFits s p around x
-    → reachedBy r ≡ checkedTo (flow s p around known C x) end
+    → told r ≡ checkedTo (flow s p around known C x) end
 
 -- the same where its code is the given one
-unfoldable pub CodedAt : Statement → List ℕ → List ℕ → List ℕ → Context → ℕ → ℕ → Answer → Type 0
+unfoldable pub CodedAt : Statement → List ℕ → List ℕ → List ℕ → Context → ℕ → ℕ → ℕ → Type 0
 CodedAt code s p t c depth at r = byte p at ≡ statementByte code → CheckedAt s p t c depth at r
 
--- the same of an assignment, under any policy, and of an update, by any table
-unfoldable pub AssignAt : List ℕ → List ℕ → Context → ℕ → Answer → Type 0
-AssignAt p t c at r = (s : List ℕ) (depth : ℕ) → byte p at ≡ 1 → CheckedAt s p t c depth at r
+-- the same of an assignment, under any policy and in any transaction, and of an update, by any table
+unfoldable pub AssignAt : List ℕ → List ℕ → Labels → ℕ → ℕ → Type 0
+AssignAt p t l at r = (s : List ℕ) (c : Context) (depth : ℕ) → c .labels ≡ l → byte p at ≡ 1 → CheckedAt s p t c depth at r
 
-unfoldable pub UpdateAt : List ℕ → List ℕ → Context → ℕ → Answer → Type 0
+unfoldable pub UpdateAt : List ℕ → List ℕ → Context → ℕ → ℕ → Type 0
 UpdateAt s p c at r = (t : List ℕ) (depth : ℕ) → byte p at ≡ 6 → CheckedAt s p t c depth at r
 
 -- the same of two statements, one after the other
-unfoldable pub PairAt : List ℕ → List ℕ → List ℕ → Context → ℕ → ℕ → Answer → Type 0
+unfoldable pub PairAt : List ℕ → List ℕ → List ℕ → Context → ℕ → ℕ → ℕ → Type 0
 PairAt s p t c depth at r =
     (around : Surroundings) (known : List Query) (C : Side → List Atom) (x y : Stmt) (mid end : ℕ)
     → Stands s p t c around known C → StmtAt s p depth at x mid → StmtFits s p around x → StmtAt s p depth mid y end → StmtFits s p around y
-    → reachedBy r ≡ checkedTo (orElse (flow s p around known C x) (flow s p around known C y)) end
+    → told r ≡ checkedTo (orElse (flow s p around known C x) (flow s p around known C y)) end
 
 -- the same of the branches of the query q: the first also knows it
-unfoldable pub BranchesAt : List ℕ → List ℕ → List ℕ → Context → ℕ → ℕ → Query → Answer → Type 0
+unfoldable pub BranchesAt : List ℕ → List ℕ → List ℕ → Context → ℕ → ℕ → Query → ℕ → Type 0
 BranchesAt s p t c depth at q r =
     (around : Surroundings) (known : List Query) (C : Side → List Atom) (x y : Stmt) (mid end : ℕ)
     → QueryFits (roles s) q → Stands s p t c around known C
     → StmtAt s p depth at x mid → StmtFits s p around x → StmtAt s p depth mid y end → StmtFits s p around y
-    → reachedBy r ≡ checkedTo (orElse (flow s p around (q ∷ known) C x) (flow s p around known C y)) end
+    → told r ≡ checkedTo (orElse (flow s p around (q ∷ known) C x) (flow s p around known C y)) end
 
 -- the table k and the words b stand for what the table t and the words c stand for, with the query q known too
 unfoldable pub Knowing : List ℕ → List ℕ → List ℕ → List ℕ → Context → Context → Query → Type 0
@@ -124,31 +126,31 @@ Knowing s p k t b c q =
     → Stands s p k b around (q ∷ known) C
 
 -- the same, where the first branch has a table and words of its own
-unfoldable pub BothAt : List ℕ → List ℕ → List ℕ → List ℕ → Context → Context → ℕ → ℕ → Answer → Type 0
+unfoldable pub BothAt : List ℕ → List ℕ → List ℕ → List ℕ → Context → Context → ℕ → ℕ → ℕ → Type 0
 BothAt s p k t b c depth at r = (q : Query) → Knowing s p k t b c q → BranchesAt s p t c depth at q r
 
 -- the same, where k is the table t with that query known
-unfoldable pub LearntAt : List ℕ → List ℕ → List ℕ → List ℕ → Context → ℕ → ℕ → Answer → Type 0
+unfoldable pub LearntAt : List ℕ → List ℕ → List ℕ → List ℕ → Context → ℕ → ℕ → ℕ → Type 0
 LearntAt s p k t c depth at r = (q : Query) → Learnt (roles s) t k q → BranchesAt s p t c depth at q r
 
 -- the same, where the query stands at the position `asked`
-unfoldable pub BranchesOf : List ℕ → List ℕ → List ℕ → Context → ℕ → ℕ → ℕ → Answer → Type 0
+unfoldable pub BranchesOf : List ℕ → List ℕ → List ℕ → Context → ℕ → ℕ → ℕ → ℕ → Type 0
 BranchesOf s p t c depth at asked r = (q : Query) (end : ℕ) → readQuery p (roles s) asked ≡ got q end → BranchesAt s p t c depth at q r
 
 -- where a transaction's body starts: its count stands after the code, then its queries
 abbrev pub bodyStart : List ℕ → ℕ → ℕ
 bodyStart p at = at + 2 + 2 * byte p (at + 1)
 
--- r is what surrounds the body of the transaction that stands at a position
-unfoldable pub EnteredAt : List ℕ → ℕ → ℕ → Around → Type 0
+-- r is the words of the transaction that stands at a position
+unfoldable pub EnteredAt : List ℕ → ℕ → ℕ → List ℕ → Type 0
 EnteredAt p depth at r =
     (P R vars : ℕ) (listed : List Query) (body : Stmt) (end : ℕ) → R ≤ roleLimit → vars ≤ variableLimit → bodyStart p at ≤ length p
     → readMany (readQuery p R) (byte p (at + 1)) (at + 2) ≡ got listed (bodyStart p at) → Each (QueryFits R) listed
     → readStmt p P R vars depth (bodyStart p at) ≡ got body end → Fits P R vars body
-    → Inside p R vars r listed (assigned body) (mutated body)
+    → Inside p R vars (aroundOf r) listed (assigned body) (mutated body)
 
--- k is the context of its body, where c is the context that it stands in
-pub record Enters (p t : List ℕ) (c : Context) (depth at : ℕ) (k : Context) : Type 0 where
-  pub around : Around
-  pub entered : EnteredAt p depth at around
-  pub held : Held p t (within c around) k
+-- r is those words, with its updates held to what they are by the table t
+pub record Enters (p t : List ℕ) (depth at : ℕ) (r : List ℕ) : Type 0 where
+  pub words : List ℕ
+  pub entered : EnteredAt p depth at words
+  pub held : Held p t words r

@@ -1,5 +1,2 @@
-pub mod Lists
-pub mod Context
-pub mod Judge
 pub mod Check
 pub mod Verdict

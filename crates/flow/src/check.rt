@@ -4,130 +4,143 @@
 ghost use mathlib.Core.Path.{_≡_};
 ghost use mathlib.Core.Bool.{true};
 ghost use Prim.Native.Nat.{_<_};
-ghost use lib.Dec.{eqb};
 ghost use lib.ListN.{length};
-ghost use Rattle.model.specs.Bytes.{byte};
 ghost use Rattle.model.specs.Policy.{Accepted};
 ghost use Rattle.order.specs.Table.{tableWords};
-ghost use Rattle.program.specs.Answer.{reachedBy};
 ghost use Rattle.program.specs.declared.codes.Statement.the-variants.{Block, If, While, Query, Transaction};
-ghost use Rattle.flow.specs.Check.{numbered, Ready, EnteredAt, Enters, CheckedAt, CodedAt, AssignAt, UpdateAt, PairAt, BothAt, LearntAt, BranchesOf};
-use super::context;
-use super::context::Around;
-use super::context::Context;
-use super::judge;
-use super::lists;
-use super::lists::QueryOf;
+ghost use Rattle.context.specs.Context.{aroundWords, aroundOf, labelsOf, contextOf};
+ghost use Rattle.flow.specs.Check.{numberedWord, Ready, EnteredAt, Enters, CheckedAt, CodedAt, AssignAt, UpdateAt, PairAt, BothAt, LearntAt, BranchesOf};
+use context::around;
+use context::judge;
+use context::lists;
+use context::lists::QueryOf;
 use gathered::labels;
 use gathered::positions;
 use gathered::writes;
 use order::table;
 use policy::rows;
-use program::answer::Answer;
+use program::answer;
 use program::codes::Statement;
 use program::codes::StatementOf;
 use shared::bytes;
 use shared::limit;
 use shared::number;
 
-// The answer of a number at a place, on a statement that ends at a position.
-fn answer(number: u32, at: usize, next: usize) -> Answer
-    ensures { λ r. ⌜ reachedBy r ≡ numbered number at next ⌝ }
+// The word of a number at a place, on a statement that ends at a position.
+fn numbered(number: u32, at: usize, next: usize) -> u64
+    ensures { λ r. ⌜ r ≡ numberedWord number at next ⌝ }
 {
     if number == number::ACCEPTED {
-        return Answer::At(next);
+        return next as u64;
     }
-    Answer::Refused(number, at)
+    answer::refused(number, at)
 }
 
 // Context and expression label are at most the variable's label.
 fn check_assign(
     program: &[u8],
     table: &[u64; table::TABLE_WORDS],
-    context: Context,
+    readers: u64,
+    trusters: u64,
+    asked: u64,
     at: usize,
-) -> Answer
+) -> u64
     requires { ⌜ length (now table) ≡ tableWords ⌝ }
-    ensures { λ r. ⌜ AssignAt (now (program .entry)) (now (table .entry)) context at r ⌝ }
+    ensures { λ r. ⌜ AssignAt (now (program .entry)) (now (table .entry)) (labelsOf readers trusters asked) at r ⌝ }
 {
     let target = bytes::byte_at(program, positions::ahead(program, at, 1));
-    let labels = labels::expr_labels(
-        program,
+    let mut labels = [readers, trusters];
+    let next = labels::expr_labels(
+        &program[..],
         limit::EXPRESSION_DEPTH,
         positions::ahead(program, at, 2),
+        &mut labels,
     );
-    let next = labels.next;
-    let number = judge::assign_number(
-        program,
-        table,
-        context::with_labels(context, labels),
-        target,
-    );
-    answer(number, at, next)
+    let number = judge::assign_number(program, table, labels[0], labels[1], asked, target);
+    numbered(number, at, next)
 }
 
 // An update in a transaction adds only what the policy file allows. The context joined with the labels of all listed queries
 // is at most all that the transaction writes.
-fn check_granted(policy: &[u8], program: &[u8], context: Context, at: usize) -> Answer
-    requires { ⌜ (Accepted (now policy)) × (context .around .inside ≡ true) ⌝ }
-    ensures { λ r. ⌜ UpdateAt (now (policy .entry)) (now (program .entry)) context at r ⌝ }
+fn check_granted(
+    policy: &[u8],
+    program: &[u8],
+    around: &[u64; around::WORDS],
+    readers: u64,
+    trusters: u64,
+    asked: u64,
+    at: usize,
+) -> u64
+    requires { ⌜ (Accepted (now policy)) × (length (now around) ≡ aroundWords) × (aroundOf (now around) .inside ≡ true) ⌝ }
+    ensures { λ r. ⌜ UpdateAt (now (policy .entry)) (now (program .entry)) (contextOf (now (around .entry)) readers trusters asked) at r ⌝ }
 {
-    let transaction = context.around;
     let count = bytes::byte_at(program, positions::ahead(program, at, 1));
     if lists::all_allowed(policy, program, count, positions::ahead(program, at, 2)) {
-        let number = judge::update_number(context::with_named(context, transaction.named));
-        return answer(
+        let named = around::named_of(around) | asked;
+        let number = judge::update_number(around, readers, trusters, named);
+        return numbered(
             number,
             at,
             positions::after_list(program, at, positions::MUTATION_BYTES),
         );
     }
-    Answer::Refused(number::FLOW_GRANT, at)
+    answer::refused(number::FLOW_GRANT, at)
 }
 
 // Only in a transaction.
-fn check_update(policy: &[u8], program: &[u8], context: Context, at: usize) -> Answer
-    requires { ⌜ Accepted (now policy) ⌝ }
-    ensures { λ r. ⌜ UpdateAt (now (policy .entry)) (now (program .entry)) context at r ⌝ }
+fn check_update(
+    policy: &[u8],
+    program: &[u8],
+    around: &[u64; around::WORDS],
+    readers: u64,
+    trusters: u64,
+    asked: u64,
+    at: usize,
+) -> u64
+    requires { ⌜ (Accepted (now policy)) × (length (now around) ≡ aroundWords) ⌝ }
+    ensures { λ r. ⌜ UpdateAt (now (policy .entry)) (now (program .entry)) (contextOf (now (around .entry)) readers trusters asked) at r ⌝ }
 {
-    let transaction = context.around;
-    if transaction.inside {
-        return check_granted(policy, program, context, at);
+    if around::is_inside(around) {
+        return check_granted(policy, program, around, readers, trusters, asked, at);
     }
-    Answer::Refused(number::FLOW_TRANSACTION, at)
+    answer::refused(number::FLOW_TRANSACTION, at)
 }
 
-// What surrounds the body of the transaction whose code stands at `at`.
-fn entered(program: &[u8], depth: u8, at: usize) -> Around
+// The words of the transaction whose code stands at `at`, its updates held to nothing yet.
+fn entered(program: &[u8], depth: u8, at: usize) -> [u64; around::WORDS]
     ensures { λ r. ⌜ EnteredAt (now (program .entry)) depth at r ⌝ }
 {
     let count = bytes::byte_at(program, positions::ahead(program, at, 1));
     let list = positions::ahead(program, at, 2);
     let body = positions::after_list(program, at, positions::QUERY_BYTES);
-    let written = writes::stmt_writes(program, depth, body);
-    Around {
-        inside: true,
-        list,
-        count,
-        named: lists::list_roles(program, count, list),
-        variables: written.variables,
-        roles: written.roles,
-    }
+    let mut written = [0u64; 2];
+    let _ = writes::stmt_writes(&program[..], depth, body, &mut written);
+    [
+        1,
+        list as u64,
+        bytes::wide(count) as u64,
+        lists::list_roles(program, count, list),
+        written[0],
+        written[1],
+        0,
+        0,
+        0,
+        0,
+    ]
 }
 
-// The context of that body, its updates held to what they are by the table.
-fn body_context(
+// The same, with its updates held to what they are by the table.
+fn entered_held(
     program: &[u8],
     table: &[u64; table::TABLE_WORDS],
-    context: Context,
     depth: u8,
     at: usize,
-) -> Context
+) -> [u64; around::WORDS]
     requires { ⌜ length (now table) ≡ tableWords ⌝ }
-    ensures { λ r. ⌜ Enters (now (program .entry)) (now (table .entry)) context depth at r ⌝ }
+    ensures { λ r. ⌜ Enters (now (program .entry)) (now (table .entry)) depth at r ⌝ }
 {
     let around = entered(program, depth, at);
-    judge::held(program, table, context::within(context, around))
+    judge::held(program, table, &around)
 }
 
 // Where no statement stands any answer is right.
@@ -135,36 +148,82 @@ pub fn check_stmt(
     policy: &[u8],
     program: &[u8],
     table: &[u64; table::TABLE_WORDS],
-    context: Context,
+    around: &[u64; around::WORDS],
+    readers: u64,
+    trusters: u64,
+    asked: u64,
     depth: u8,
     at: usize,
-) -> Answer
-    requires { ⌜ Ready (now policy) (now table) ⌝ }
-    ensures { λ r. ⌜ CheckedAt (now (policy .entry)) (now (program .entry)) (now (table .entry)) context depth at r ⌝ }
+) -> u64
+    requires { ⌜ Ready (now policy) (now table) (now around) ⌝ }
+    ensures { λ r. ⌜ CheckedAt (now (policy .entry)) (now (program .entry)) (now (table .entry)) (contextOf (now (around .entry)) readers trusters asked) depth at r ⌝ }
 {
     if depth == 0 {
-        return Answer::Refused(number::PROGRAM_DEPTH, at);
+        return answer::refused(number::PROGRAM_DEPTH, at);
     }
     let StatementOf::Is(code) = positions::statement_at(program, at) else {
-        return Answer::Refused(number::PROGRAM_CODE, at);
+        return answer::refused(number::PROGRAM_CODE, at);
     };
     match code {
-        Statement::Skip => Answer::At(positions::ahead(program, at, 1)),
-        Statement::Assign => check_assign(program, table, context, at),
-        Statement::Block => check_block(policy, program, table, context, depth, at),
-        Statement::If => check_if(policy, program, table, context, depth, at),
-        Statement::While => check_while(policy, program, table, context, depth, at),
-        Statement::Query => check_query(policy, program, table, context, depth, at),
-        Statement::Update => check_update(policy, program, context, at),
-        Statement::Transaction => check_transaction(policy, program, table, context, depth, at),
+        Statement::Skip => positions::ahead(program, at, 1) as u64,
+        Statement::Assign => check_assign(program, table, readers, trusters, asked, at),
+        Statement::Block => check_block(
+            &policy[..],
+            &program[..],
+            table,
+            around,
+            readers,
+            trusters,
+            asked,
+            depth,
+            at,
+        ),
+        Statement::If => check_if(
+            &policy[..],
+            &program[..],
+            table,
+            around,
+            readers,
+            trusters,
+            asked,
+            depth,
+            at,
+        ),
+        Statement::While => check_while(
+            &policy[..],
+            &program[..],
+            table,
+            around,
+            readers,
+            trusters,
+            asked,
+            depth,
+            at,
+        ),
+        Statement::Query => check_query(
+            &policy[..],
+            &program[..],
+            table,
+            around,
+            readers,
+            trusters,
+            asked,
+            depth,
+            at,
+        ),
+        Statement::Update => check_update(policy, program, around, readers, trusters, asked, at),
+        Statement::Transaction => check_transaction(
+            &policy[..],
+            &program[..],
+            table,
+            around,
+            readers,
+            trusters,
+            asked,
+            depth,
+            at,
+        ),
     }
-}
-
-// Whether a skip, code 00, would stand at a position.
-fn is_skip(program: &[u8], at: usize) -> bool
-    ensures { λ r. ⌜ r ≡ eqb (byte (now (program .entry)) at) 0 ⌝ }
-{
-    bytes::byte_at(program, at) == 0
 }
 
 // A skip is passed over here, since a call would cost more than all else of it.
@@ -172,30 +231,44 @@ fn check_block(
     policy: &[u8],
     program: &[u8],
     table: &[u64; table::TABLE_WORDS],
-    context: Context,
+    around: &[u64; around::WORDS],
+    readers: u64,
+    trusters: u64,
+    asked: u64,
     depth: u8,
     at: usize,
-) -> Answer
-    requires { ⌜ (Ready (now policy) (now table)) × (0 < depth) ⌝ }
-    ensures { λ r. ⌜ CodedAt Block (now (policy .entry)) (now (program .entry)) (now (table .entry)) context depth at r ⌝ }
+) -> u64
+    requires { ⌜ (Ready (now policy) (now table) (now around)) × (0 < depth) ⌝ }
+    ensures { λ r. ⌜ CodedAt Block (now (policy .entry)) (now (program .entry)) (now (table .entry)) (contextOf (now (around .entry)) readers trusters asked) depth at r ⌝ }
 {
     let inner = depth - 1;
     let mut left = bytes::byte_at(program, positions::ahead(program, at, 1));
     let mut next = positions::ahead(program, at, 2);
     while 0 < left {
-        if is_skip(program, next) {
+        if positions::is_skip(program, next) {
             next = positions::ahead(program, next, 1);
             left -= 1;
         } else {
-            let one = check_stmt(policy, program, table, context, inner, next);
-            let Answer::At(end) = one else {
+            let one = check_stmt(
+                &policy[..],
+                &program[..],
+                table,
+                around,
+                readers,
+                trusters,
+                asked,
+                inner,
+                next,
+            );
+            if answer::REFUSED <= one {
                 return one;
-            };
+            }
+            let end = one as usize;
             next = end;
             left -= 1;
         }
     }
-    Answer::At(next)
+    next as u64
 }
 
 // Two statements, one after the other.
@@ -203,18 +276,42 @@ fn check_pair(
     policy: &[u8],
     program: &[u8],
     table: &[u64; table::TABLE_WORDS],
-    context: Context,
+    around: &[u64; around::WORDS],
+    readers: u64,
+    trusters: u64,
+    asked: u64,
     depth: u8,
     at: usize,
-) -> Answer
-    requires { ⌜ Ready (now policy) (now table) ⌝ }
-    ensures { λ r. ⌜ PairAt (now (policy .entry)) (now (program .entry)) (now (table .entry)) context depth at r ⌝ }
+) -> u64
+    requires { ⌜ Ready (now policy) (now table) (now around) ⌝ }
+    ensures { λ r. ⌜ PairAt (now (policy .entry)) (now (program .entry)) (now (table .entry)) (contextOf (now (around .entry)) readers trusters asked) depth at r ⌝ }
 {
-    let one = check_stmt(policy, program, table, context, depth, at);
-    let Answer::At(mid) = one else {
+    let one = check_stmt(
+        &policy[..],
+        &program[..],
+        table,
+        around,
+        readers,
+        trusters,
+        asked,
+        depth,
+        at,
+    );
+    if answer::REFUSED <= one {
         return one;
-    };
-    check_stmt(policy, program, table, context, depth, mid)
+    }
+    let mid = one as usize;
+    check_stmt(
+        &policy[..],
+        &program[..],
+        table,
+        around,
+        readers,
+        trusters,
+        asked,
+        depth,
+        mid,
+    )
 }
 
 // The branches are checked with the expression's label joined to the context.
@@ -222,21 +319,34 @@ fn check_if(
     policy: &[u8],
     program: &[u8],
     table: &[u64; table::TABLE_WORDS],
-    context: Context,
+    around: &[u64; around::WORDS],
+    readers: u64,
+    trusters: u64,
+    asked: u64,
     depth: u8,
     at: usize,
-) -> Answer
-    requires { ⌜ (Ready (now policy) (now table)) × (0 < depth) ⌝ }
-    ensures { λ r. ⌜ CodedAt If (now (policy .entry)) (now (program .entry)) (now (table .entry)) context depth at r ⌝ }
+) -> u64
+    requires { ⌜ (Ready (now policy) (now table) (now around)) × (0 < depth) ⌝ }
+    ensures { λ r. ⌜ CodedAt If (now (policy .entry)) (now (program .entry)) (now (table .entry)) (contextOf (now (around .entry)) readers trusters asked) depth at r ⌝ }
 {
-    let labels = labels::expr_labels(
-        program,
+    let mut labels = [readers, trusters];
+    let next = labels::expr_labels(
+        &program[..],
         limit::EXPRESSION_DEPTH,
         positions::ahead(program, at, 1),
+        &mut labels,
     );
-    let start = labels.next;
-    let inner = context::with_labels(context, labels);
-    check_pair(policy, program, table, inner, depth - 1, start)
+    check_pair(
+        &policy[..],
+        &program[..],
+        table,
+        around,
+        labels[0],
+        labels[1],
+        asked,
+        depth - 1,
+        next,
+    )
 }
 
 // So is the body.
@@ -244,21 +354,34 @@ fn check_while(
     policy: &[u8],
     program: &[u8],
     table: &[u64; table::TABLE_WORDS],
-    context: Context,
+    around: &[u64; around::WORDS],
+    readers: u64,
+    trusters: u64,
+    asked: u64,
     depth: u8,
     at: usize,
-) -> Answer
-    requires { ⌜ (Ready (now policy) (now table)) × (0 < depth) ⌝ }
-    ensures { λ r. ⌜ CodedAt While (now (policy .entry)) (now (program .entry)) (now (table .entry)) context depth at r ⌝ }
+) -> u64
+    requires { ⌜ (Ready (now policy) (now table) (now around)) × (0 < depth) ⌝ }
+    ensures { λ r. ⌜ CodedAt While (now (policy .entry)) (now (program .entry)) (now (table .entry)) (contextOf (now (around .entry)) readers trusters asked) depth at r ⌝ }
 {
-    let labels = labels::expr_labels(
-        program,
+    let mut labels = [readers, trusters];
+    let next = labels::expr_labels(
+        &program[..],
         limit::EXPRESSION_DEPTH,
         positions::ahead(program, at, 1),
+        &mut labels,
     );
-    let start = labels.next;
-    let inner = context::with_labels(context, labels);
-    check_stmt(policy, program, table, inner, depth - 1, start)
+    check_stmt(
+        &policy[..],
+        &program[..],
+        table,
+        around,
+        labels[0],
+        labels[1],
+        asked,
+        depth - 1,
+        next,
+    )
 }
 
 // Only in a transaction whose list holds it. In a transaction that writes nothing no table is asked, so what it knows does not
@@ -268,52 +391,106 @@ fn check_query(
     policy: &[u8],
     program: &[u8],
     table: &[u64; table::TABLE_WORDS],
-    context: Context,
+    around: &[u64; around::WORDS],
+    readers: u64,
+    trusters: u64,
+    asked: u64,
     depth: u8,
     at: usize,
-) -> Answer
-    requires { ⌜ (Ready (now policy) (now table)) × (0 < depth) ⌝ }
-    ensures { λ r. ⌜ CodedAt Query (now (policy .entry)) (now (program .entry)) (now (table .entry)) context depth at r ⌝ }
+) -> u64
+    requires { ⌜ (Ready (now policy) (now table) (now around)) × (0 < depth) ⌝ }
+    ensures { λ r. ⌜ CodedAt Query (now (policy .entry)) (now (program .entry)) (now (table .entry)) (contextOf (now (around .entry)) readers trusters asked) depth at r ⌝ }
 {
-    let around = context.around;
     let inner = depth - 1;
-    if around.inside {
-        let asked = positions::ahead(program, at, 1);
-        if lists::is_listed(program, around.count, around.list, asked) {
-            let joined = context::with_named(context, lists::query_roles(program, asked));
+    if around::is_inside(around) {
+        let query = positions::ahead(program, at, 1);
+        if lists::is_listed(
+            &program[..],
+            around::count_of(around),
+            around::list_of(around),
+            query,
+        ) {
+            let named = lists::query_roles(&program[..], query) | asked;
             let start = positions::ahead(program, at, 3);
-            if context::is_idle(joined) {
-                return check_pair(policy, program, table, joined, inner, start);
+            if around::is_idle(around) {
+                return check_pair(
+                    &policy[..],
+                    &program[..],
+                    table,
+                    around,
+                    readers,
+                    trusters,
+                    named,
+                    inner,
+                    start,
+                );
             }
-            if lists::is_known(program, table, asked) {
-                return check_branches(policy, program, table, table, joined, joined, inner, start);
+            if lists::is_known(program, table, query) {
+                return check_branches(
+                    &policy[..],
+                    &program[..],
+                    table,
+                    table,
+                    around,
+                    around,
+                    readers,
+                    trusters,
+                    named,
+                    inner,
+                    start,
+                );
             }
-            return check_learnt(policy, program, table, joined, inner, start, asked);
+            return check_learnt(
+                &policy[..],
+                &program[..],
+                table,
+                around,
+                readers,
+                trusters,
+                named,
+                inner,
+                start,
+                query,
+            );
         }
-        return Answer::Refused(number::FLOW_TRANSACTION, at);
+        return answer::refused(number::FLOW_TRANSACTION, at);
     }
-    Answer::Refused(number::FLOW_TRANSACTION, at)
+    answer::refused(number::FLOW_TRANSACTION, at)
 }
 
-// The branches of the query that stands at `asked`, which the table does not know: the first has a table that does.
+// The branches of the query that stands at `query`, which the table does not know: the first has a table that does.
 fn check_learnt(
     policy: &[u8],
     program: &[u8],
     table: &[u64; table::TABLE_WORDS],
-    context: Context,
+    around: &[u64; around::WORDS],
+    readers: u64,
+    trusters: u64,
+    asked: u64,
     depth: u8,
     at: usize,
-    asked: usize,
-) -> Answer
-    requires { ⌜ Ready (now policy) (now table) ⌝ }
-    ensures { λ r. ⌜ BranchesOf (now (policy .entry)) (now (program .entry)) (now (table .entry)) context depth at asked r ⌝ }
+    query: usize,
+) -> u64
+    requires { ⌜ Ready (now policy) (now table) (now around) ⌝ }
+    ensures { λ r. ⌜ BranchesOf (now (policy .entry)) (now (program .entry)) (now (table .entry)) (contextOf (now (around .entry)) readers trusters asked) depth at query r ⌝ }
 {
-    let QueryOf::Is(first, second) = lists::query_at(program, asked) else {
-        return Answer::Refused(number::PROGRAM_CODE, asked);
+    let QueryOf::Is(first, second) = lists::query_at(program, query) else {
+        return answer::refused(number::PROGRAM_CODE, query);
     };
     let mut learnt = *table;
     order::learn::learn(&mut learnt, rows::roles_of(policy), first, second);
-    check_held(policy, program, &learnt, table, context, depth, at)
+    check_held(
+        &policy[..],
+        &program[..],
+        &learnt,
+        table,
+        around,
+        readers,
+        trusters,
+        asked,
+        depth,
+        at,
+    )
 }
 
 // The same with that table: an update in the first branch is held to what it gives.
@@ -322,36 +499,75 @@ fn check_held(
     program: &[u8],
     learnt: &[u64; table::TABLE_WORDS],
     table: &[u64; table::TABLE_WORDS],
-    context: Context,
+    around: &[u64; around::WORDS],
+    readers: u64,
+    trusters: u64,
+    asked: u64,
     depth: u8,
     at: usize,
-) -> Answer
-    requires { ⌜ (Ready (now policy) (now learnt)) × (Ready (now policy) (now table)) ⌝ }
-    ensures { λ r. ⌜ LearntAt (now (policy .entry)) (now (program .entry)) (now (learnt .entry)) (now (table .entry)) context depth at r ⌝ }
+) -> u64
+    requires { ⌜ (Ready (now policy) (now learnt) (now around)) × (Ready (now policy) (now table) (now around)) ⌝ }
+    ensures { λ r. ⌜ LearntAt (now (policy .entry)) (now (program .entry)) (now (learnt .entry)) (now (table .entry)) (contextOf (now (around .entry)) readers trusters asked) depth at r ⌝ }
 {
-    let known = judge::held(program, learnt, context);
-    check_branches(policy, program, learnt, table, known, context, depth, at)
+    let known = judge::held(program, learnt, around);
+    check_branches(
+        &policy[..],
+        &program[..],
+        learnt,
+        table,
+        &known,
+        around,
+        readers,
+        trusters,
+        asked,
+        depth,
+        at,
+    )
 }
 
-// The first branch also knows the query, by the table `learnt` and the context `known`; the second does not.
+// The first branch also knows the query, by the table `learnt` and the words `known`; the second does not.
 fn check_branches(
     policy: &[u8],
     program: &[u8],
     learnt: &[u64; table::TABLE_WORDS],
     table: &[u64; table::TABLE_WORDS],
-    known: Context,
-    context: Context,
+    known: &[u64; around::WORDS],
+    around: &[u64; around::WORDS],
+    readers: u64,
+    trusters: u64,
+    asked: u64,
     depth: u8,
     at: usize,
-) -> Answer
-    requires { ⌜ (Ready (now policy) (now learnt)) × (Ready (now policy) (now table)) ⌝ }
-    ensures { λ r. ⌜ BothAt (now (policy .entry)) (now (program .entry)) (now (learnt .entry)) (now (table .entry)) known context depth at r ⌝ }
+) -> u64
+    requires { ⌜ (Ready (now policy) (now learnt) (now known)) × (Ready (now policy) (now table) (now around)) ⌝ }
+    ensures { λ r. ⌜ BothAt (now (policy .entry)) (now (program .entry)) (now (learnt .entry)) (now (table .entry)) (contextOf (now (known .entry)) readers trusters asked) (contextOf (now (around .entry)) readers trusters asked) depth at r ⌝ }
 {
-    let one = check_stmt(policy, program, learnt, known, depth, at);
-    let Answer::At(other) = one else {
+    let one = check_stmt(
+        &policy[..],
+        &program[..],
+        learnt,
+        known,
+        readers,
+        trusters,
+        asked,
+        depth,
+        at,
+    );
+    if answer::REFUSED <= one {
         return one;
-    };
-    check_stmt(policy, program, table, context, depth, other)
+    }
+    let other = one as usize;
+    check_stmt(
+        &policy[..],
+        &program[..],
+        table,
+        around,
+        readers,
+        trusters,
+        asked,
+        depth,
+        other,
+    )
 }
 
 // A transaction holds no transaction.
@@ -359,19 +575,31 @@ fn check_transaction(
     policy: &[u8],
     program: &[u8],
     table: &[u64; table::TABLE_WORDS],
-    context: Context,
+    around: &[u64; around::WORDS],
+    readers: u64,
+    trusters: u64,
+    asked: u64,
     depth: u8,
     at: usize,
-) -> Answer
-    requires { ⌜ (Ready (now policy) (now table)) × (0 < depth) ⌝ }
-    ensures { λ r. ⌜ CodedAt Transaction (now (policy .entry)) (now (program .entry)) (now (table .entry)) context depth at r ⌝ }
+) -> u64
+    requires { ⌜ (Ready (now policy) (now table) (now around)) × (0 < depth) ⌝ }
+    ensures { λ r. ⌜ CodedAt Transaction (now (policy .entry)) (now (program .entry)) (now (table .entry)) (contextOf (now (around .entry)) readers trusters asked) depth at r ⌝ }
 {
-    let around = context.around;
-    if around.inside {
-        return Answer::Refused(number::FLOW_TRANSACTION, at);
+    if around::is_inside(around) {
+        return answer::refused(number::FLOW_TRANSACTION, at);
     }
     let inner = depth - 1;
     let body = positions::after_list(program, at, positions::QUERY_BYTES);
-    let inside = body_context(program, table, context, inner, at);
-    check_stmt(policy, program, table, inside, inner, body)
+    let inside = entered_held(&program[..], table, inner, at);
+    check_stmt(
+        &policy[..],
+        &program[..],
+        table,
+        &inside,
+        readers,
+        trusters,
+        asked,
+        inner,
+        body,
+    )
 }

@@ -6,9 +6,10 @@ ghost use Rattle.model.specs.Program.{readProgram};
 ghost use Rattle.model.specs.Flow.{bodyVerdict, programVerdict};
 ghost use Rattle.flow.specs.Verdict.{verdictOf, BodyVerdict};
 use super::check;
-use super::context;
+use context::around;
 use order::table;
 use policy::rows;
+use program::answer;
 use program::answer::Answer;
 use program::layout;
 use shared::limit;
@@ -27,19 +28,23 @@ fn body_verdict(policy: &[u8], program: &[u8]) -> Verdict
 {
     let mut table = [0u64; table::TABLE_WORDS];
     order::base::base_table(policy, &mut table);
+    let around = [0u64; around::WORDS];
     let start = layout::body_at(layout::variables_of(program));
     let checked = check::check_stmt(
         policy,
         program,
         &table,
-        context::start(),
+        &around,
+        0,
+        0,
+        0,
         limit::STATEMENT_DEPTH,
         start,
     );
-    match checked {
-        Answer::At(_) => Verdict::Fine,
-        Answer::Refused(k, place) => Verdict::Refused(k, place),
+    if checked < answer::REFUSED {
+        return Verdict::Fine;
     }
+    Verdict::Refused(answer::number_of(checked), answer::place_of(checked))
 }
 
 // The program is read, then checked.

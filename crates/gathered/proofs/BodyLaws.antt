@@ -16,10 +16,9 @@ use Rattle.program.specs.declared.codes.StatementOf.{StatementOf}
 use Rattle.program.specs.declared.codes.StatementOf.the-variants as statement
 use Rattle.program.specs.Codes.{statementOf, statementByte}
 use Rattle.program.proofs.CodeLaws.{statement-byte, statement-none}
-use Rattle.gathered.specs.declared.writes.Writes.{Writes}
 use Rattle.gathered.specs.declared.bodies.Found.{Found}
 use Rattle.gathered.specs.Positions.{ahead, afterList, ExprEnds}
-use Rattle.gathered.specs.Writes.{Fit, stmtWrites, WritesAt}
+use Rattle.gathered.specs.Writes.{Fit, WritesAt}
 use Rattle.gathered.specs.Bodies.{noneFound, oneFound, foundOf, FoundAt, FoundInPair, FoundInBlock, FoundInBody}
 use Rattle.model.proofs.Standing.{many-none, many-more, mutations-end, stmt-deep, stmt-there, stmt-known, skip-parts, assign-parts, block-parts, if-parts, while-parts, branch-parts, update-parts, transaction-parts}
 use Rattle.gathered.proofs.PositionLaws.{ahead-is, list-is}
@@ -108,9 +107,9 @@ module _ (p : List ℕ) (d at k : ℕ) where
         s P R vars fit b end (rw y g) ∙ rw z (o .1)
 
   -- a transaction whose body stands here
-  pub body-here : (w : Writes) (size : ℕ) → k ≡ 0 → WritesAt p d at w → size ≡ w .next - at → FoundInBody p d at k (oneFound at size)
+  pub body-here : (w v : List ℕ) (last size : ℕ) → k ≡ 0 → WritesAt p d at w v last → size ≡ last - at → FoundInBody p d at k (oneFound at size)
   unfolding WritesAt FoundInBody foundOf
-  body-here w size z f e P R vars fit x end h = let y : w ≡ stmtWrites x end = f P R vars fit x end h in rw (z, e, y)
+  body-here w v last size z f e P R vars fit x end h = rw (z, e, f P R vars fit x end h .0)
 
   pub body-inside : (r : Found) → (k ≡ 0 → ⊥) → FoundAt p d at (k - 1) r → FoundInBody p d at k r
   unfolding FoundAt FoundInBody foundOf

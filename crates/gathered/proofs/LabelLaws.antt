@@ -4,14 +4,14 @@ use Prim.Native.Nat.{ℕ, _+_, _-_, _<_}
 use mathlib.Core.List.{List}
 use mathlib.Core.Bool.{Bool, true, false}
 use native.Mathlib.Omega.{arith}
-use lib.Bits.{bitOr}
+use lib.ListN.{length, getD, set}
+use lib.Bits.{bitOr, or-zero-l, or-zero-r}
 use lib.Dec.{eqb}
 use borrow.Author.Tests.{eqb-true, eqb-false}
 use Rattle.model.specs.Limits.{roleLimit}
 use Rattle.model.specs.Bytes.{byte}
 use Rattle.model.specs.Policy.{reading, trust}
 use Rattle.model.specs.Syntax.{atomByte}
-use Rattle.gathered.specs.declared.labels.Labels.{Labels}
 use Rattle.shared.specs.Words.{single}
 use Rattle.shared.proofs.SetLaws.{single-high, single-is}
 use Rattle.program.specs.declared.codes.Atom.{Atom}
@@ -28,9 +28,10 @@ use Rattle.program.proofs.CodeLaws.{atom-byte, none-high, expression-byte, expr
 use Rattle.model.specs.Program.{labelByte}
 use Rattle.gathered.specs.Words.{labelRole, exprRoles}
 use Rattle.gathered.specs.Positions.{ahead}
-use Rattle.gathered.specs.Labels.{LabelsBelow, variableLabels, exprLabels, LabelsAt}
+use Rattle.gathered.specs.Labels.{LabelsBelow, variableAdded, LabelsAt}
 use Rattle.model.proofs.Standing.{expr-deep, expr-there, expr-known, constant-parts, variable-parts, binary-parts}
 use Rattle.gathered.proofs.PositionLaws.{ahead-is, operator-code}
+use Rattle.gathered.proofs.AddedLaws.{added, length-stored, length-added, added-none, added-both, added-first, added-second}
 
 -- a label's role: that of its atom, if it names one alone
 module _ (b : ℕ) (o : AtomOf) (i : o ≡ atomOf b) where
@@ -53,8 +54,12 @@ module _ (b : ℕ) (o : AtomOf) (i : o ≡ atomOf b) where
 pub ruleset label-roles = (role-unknown, role-alone, role-viewers, role-trusters, role-everyone)
 
 -- a variable's labels
-pub variable-words : (p : List ℕ) (x next a b i j : ℕ) → a ≡ labelByte p reading x → b ≡ labelByte p trust x → i ≡ single a → j ≡ single b → _≡_ {A = Labels} (record { next = next; reading = i; trust = j }) (variableLabels p x next)
-variable-words p x next a b i j f g h k = rw (h, k, f, g)
+pub variable-words : (p : List ℕ) (x a b i j u v : ℕ) (w : List ℕ) → length w ≡ 2 → a ≡ labelByte p reading x → b ≡ labelByte p trust x → i ≡ single a → j ≡ single b
+    → u ≡ bitOr i (getD w 0 0) → v ≡ bitOr j (getD (set w 0 u) 1 0) → set (set w 0 u) 1 v ≡ variableAdded p x w
+variable-words p x a b i j u v w l f g h k m n =
+    rw (n, m, added-first i w l) (added-second j (added i 0 w) refl ∙ added-both i 0 0 j w ∙ rw (or-zero-r i, or-zero-l j, h, k, f, g))
+
+pub ruleset variables = (variable-words, length-stored)
 
 -- a label that was read is a role or everyone, whose word is empty
 right-label : (x : ℕ) → ((x ≡ 0xff → ⊥) → x < roleLimit) → single x ≡ labelRole x
@@ -66,35 +71,39 @@ right-label x f = go (eqb x 0xff) refl
 
 -- an expression
 module _ (p : List ℕ) (d at : ℕ) where
-  pub labels-none : (r : Labels) → d ≡ 0 → LabelsAt p d at r
+  pub labels-none : (w v : List ℕ) (r : ℕ) → d ≡ 0 → LabelsAt p d at w v r
   unfolding LabelsAt
-  labels-none r z vars right e end h = absurd (expr-deep p vars d at h z)
+  labels-none w v r z vars right e end h = absurd (expr-deep p vars d at h z)
 
   module _ (o : ExpressionOf) (i : o ≡ expressionOf (byte p at)) where
-    pub labels-unknown : (r : Labels) → o ≡ expression.No → LabelsAt p d at r
+    pub labels-unknown : (w v : List ℕ) (r : ℕ) → o ≡ expression.No → LabelsAt p d at w v r
     unfolding LabelsAt
-    labels-unknown r k vars right e end h = absurd (omega (arith, expression-none (byte p at) o i k, expr-known p vars d at h))
+    labels-unknown w v r k vars right e end h = absurd (omega (arith, expression-none (byte p at) o i k, expr-known p vars d at h))
 
     module _ (c : Expression) (j : o ≡ expression.Is c) where
-      pub labels-constant : (n : ℕ) (r : Labels) → c ≡ Constant → n ≡ ahead p at 5 → r ≡ record { next = n; reading = 0; trust = 0 } → LabelsAt p d at r
+      pub labels-constant : (w : List ℕ) (n : ℕ) → c ≡ Constant → n ≡ ahead p at 5 → length w ≡ 2 → LabelsAt p d at w w n
       unfolding LabelsAt exprRoles
-      labels-constant n r k q s vars right e end h =
+      labels-constant w n k q l vars right e end h =
           let u = constant-parts p vars d at h (expression-byte (byte p at) o i c j ∙ ap expressionByte k) in
-          s ∙ rw (u .is, u .ends, q, ahead-is p at 5 (u .inside))
+          (q ∙ ahead-is p at 5 (u .inside) ∙ sym (u .ends), rw (u .is) (added-none w l))
 
-      pub labels-variable : (m n x : ℕ) (r : Labels) → c ≡ Variable → m ≡ ahead p at 1 → x ≡ byte p m → n ≡ ahead p at 2 → r ≡ variableLabels p x n → LabelsAt p d at r
+      pub labels-variable : (w v : List ℕ) (m x n : ℕ) → c ≡ Variable → m ≡ ahead p at 1 → x ≡ byte p m → v ≡ variableAdded p x w → n ≡ ahead p at 2 → LabelsAt p d at w v n
       unfolding LabelsAt LabelsBelow exprRoles
-      labels-variable m n x r k q y l s vars right e end h =
+      labels-variable w v m x n k q y s l vars right e end h =
           let u = variable-parts p vars d at h (expression-byte (byte p at) o i c j ∙ ap expressionByte k) in
           let z : x ≡ byte p (at + 1) = y ∙ ap (byte p) (q ∙ ahead-is p at 1 (omega arith)) in
-          let w : n ≡ at + 2 = l ∙ ahead-is p at 2 (u .inside) in
-          s ∙ rw (u .is, u .ends, z, w, right-label (labelByte p reading (byte p (at + 1))) (right reading (byte p (at + 1)) (u .fits)), right-label (labelByte p trust (byte p (at + 1))) (right trust (byte p (at + 1)) (u .fits)))
+          let a = right-label (labelByte p reading (byte p (at + 1))) (right reading (byte p (at + 1)) (u .fits)) in
+          let b = right-label (labelByte p trust (byte p (at + 1))) (right trust (byte p (at + 1)) (u .fits)) in
+          (l ∙ ahead-is p at 2 (u .inside) ∙ sym (u .ends), s ∙ rw (u .is, z, a, b))
 
-      pub labels-binary : (op : Operator) (n : ℕ) (a b : Labels) → c ≡ Binary op → n ≡ ahead p at 1 → LabelsAt p (d - 1) n a → LabelsAt p (d - 1) (a .next) b → LabelsAt p d at (record { next = b .next; reading = bitOr (a .reading) (b .reading); trust = bitOr (a .trust) (b .trust) })
+      pub labels-binary : (op : Operator) (w t v : List ℕ) (n mid r : ℕ) → c ≡ Binary op → n ≡ ahead p at 1 → LabelsAt p (d - 1) n w t mid → LabelsAt p (d - 1) mid t v r → LabelsAt p d at w v r
       unfolding LabelsAt exprRoles
-      labels-binary op n a b k q f g vars right e end h =
+      labels-binary op w t v n mid r k q f g vars right e end h =
           let u = binary-parts p vars d at h (modelOperator op) (expression-byte (byte p at) o i c j ∙ ap expressionByte k ∙ operator-code op) in
           let m : n ≡ at + 1 = q ∙ ahead-is p at 1 (omega (arith, expr-there p vars d at h)) in
-          let x : a ≡ exprLabels p (u .left) (u .mid) = f vars right (u .left) (u .mid) (rw m (u .left-read)) in
-          let y : b ≡ exprLabels p (u .right) end = g vars right (u .right) end (rw x (u .right-read)) in
-          rw (u .is, x, y)
+          let x = f vars right (u .left) (u .mid) (rw m (u .left-read)) in
+          let y = g vars right (u .right) end (rw (x .0) (u .right-read)) in
+          let z = added-both (exprRoles p reading (u .left)) (exprRoles p trust (u .left)) (exprRoles p reading (u .right)) (exprRoles p trust (u .right)) w in
+          (y .0, rw (u .is) (y .1 ∙ rw (x .1) z))
+
+pub ruleset labels = (length-added, labels-none, labels-unknown, labels-constant, labels-variable)

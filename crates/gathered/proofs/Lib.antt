@@ -1,4 +1,5 @@
 pub mod PositionLaws
+mod AddedLaws
 mod LabelLaws
 mod WriteLaws
 mod BodyLaws

@@ -77,6 +77,9 @@ list-is p at size l =
 pub statement-here : (p : List ℕ) (at b : ℕ) (o : StatementOf) → b ≡ byte p at → o ≡ statementOf b → o ≡ statementOf (byte p at)
 statement-here p at b o e f = rw (← e) f
 
+pub skip-here : (p : List ℕ) (at b : ℕ) → b ≡ byte p at → eqb b 0 ≡ eqb (byte p at) 0
+skip-here p at b e = rw e
+
 pub expression-here : (p : List ℕ) (at b : ℕ) (o : ExpressionOf) → b ≡ byte p at → o ≡ expressionOf b → o ≡ expressionOf (byte p at)
 expression-here p at b o e f = rw (← e) f
 

@@ -1,12 +1,13 @@
--- What the walk over an expression gives: where it ends, and the roles among its labels on both sides.
+-- What the walk over an expression gives: where it ends, and the roles among its labels on both sides, added to two words.
 use mathlib.Core.Path.{_≡_}
 use Prim.Native.Nat.{ℕ, _<_}
-use mathlib.Core.List.{List}
+use mathlib.Core.List.{List, [], _∷_}
+use lib.ListN.{getD}
+use lib.Bits.{bitOr}
 use Rattle.model.specs.Limits.{roleLimit}
 use Rattle.model.specs.Policy.{Side, reading, trust}
 use Rattle.model.specs.Syntax.{Expr}
 use Rattle.model.specs.Program.{got, readExpr}
-use Rattle.gathered.specs.declared.labels.Labels.{Labels}
 use Rattle.shared.specs.Words.{single}
 use Rattle.model.specs.Program.{labelByte}
 use Rattle.gathered.specs.Words.{exprRoles}
@@ -15,15 +16,16 @@ use Rattle.gathered.specs.Words.{exprRoles}
 unfoldable pub LabelsBelow : ℕ → List ℕ → ℕ → Type 0
 LabelsBelow R p vars = (side : Side) (x : ℕ) → x < vars → (labelByte p side x ≡ 0xff → ⊥) → labelByte p side x < R
 
--- one variable's labels, as words
-abbrev pub variableLabels : List ℕ → ℕ → ℕ → Labels
-variableLabels p x next = record { next = next; reading = single (labelByte p reading x); trust = single (labelByte p trust x) }
+-- the roles of one variable's labels, added to two words
+abbrev pub variableAdded : List ℕ → ℕ → List ℕ → List ℕ
+variableAdded p x before = bitOr (single (labelByte p reading x)) (getD before 0 0) ∷ bitOr (single (labelByte p trust x)) (getD before 1 0) ∷ []
 
--- the labels of an expression that ends at a position
-abbrev pub exprLabels : List ℕ → Expr → ℕ → Labels
-exprLabels p e end = record { next = end; reading = exprRoles p reading e; trust = exprRoles p trust e }
+-- the roles among the labels of e, added to two words
+abbrev pub labelsAdded : List ℕ → Expr → List ℕ → List ℕ
+labelsAdded p e before = bitOr (exprRoles p reading e) (getD before 0 0) ∷ bitOr (exprRoles p trust e) (getD before 1 0) ∷ []
 
--- r is the labels of the expression that stands at a position, of any program whose labels are roles or everyone
-unfoldable pub LabelsAt : List ℕ → ℕ → ℕ → Labels → Type 0
-LabelsAt p depth at r =
-    (vars : ℕ) → LabelsBelow roleLimit p vars → (e : Expr) (end : ℕ) → readExpr p vars depth at ≡ got e end → r ≡ exprLabels p e end
+-- r is where the expression that stands at a position ends, and its labels are added, in any program whose labels are roles or
+-- everyone
+unfoldable pub LabelsAt : List ℕ → ℕ → ℕ → List ℕ → List ℕ → ℕ → Type 0
+LabelsAt p depth at before after r =
+    (vars : ℕ) → LabelsBelow roleLimit p vars → (e : Expr) (end : ℕ) → readExpr p vars depth at ≡ got e end → (r ≡ end) × (after ≡ labelsAdded p e before)

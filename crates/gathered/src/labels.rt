@@ -1,7 +1,9 @@
-// The labels of an expression, for both sides at once.
+// The labels of an expression, for both sides at once: the roles among its variables' labels are added to two words, who may
+// read and who trusts. Everyone adds nothing.
 ghost use mathlib.Core.Path.{_≡_};
+ghost use lib.ListN.{length};
 ghost use Rattle.shared.specs.Words.{single};
-ghost use Rattle.gathered.specs.Labels.{variableLabels, LabelsAt};
+ghost use Rattle.gathered.specs.Labels.{variableAdded, LabelsAt};
 use super::positions;
 use program::codes;
 use program::codes::Atom;
@@ -11,24 +13,6 @@ use program::codes::ExpressionOf;
 use program::layout;
 use shared::bytes;
 use shared::sets;
-
-// Where the expression ends, and the roles among its variables' labels: who may read, who trusts. Everyone adds nothing.
-pub struct Labels {
-    pub next: usize,
-    pub reading: u64,
-    pub trust: u64,
-}
-
-// No role among the labels of an expression that ends at a position.
-fn no_labels(next: usize) -> Labels
-    ensures { λ r. ⌜ r ≡ record { next = next; reading = 0; trust = 0 } ⌝ }
-{
-    Labels {
-        next,
-        reading: 0,
-        trust: 0,
-    }
-}
 
 // A label's role as a set; everyone adds nothing, and no other atom is a label.
 fn label_role(label: u8) -> u64
@@ -45,44 +29,37 @@ fn label_role(label: u8) -> u64
     }
 }
 
-// The labels of variable x.
-fn variable_labels(program: &[u8], x: u8, next: usize) -> Labels
-    ensures { λ r. ⌜ r ≡ variableLabels (now (program .entry)) x next ⌝ }
+// Adds the labels of variable x.
+fn add_variable(program: &[u8], x: u8, labels: &mut [u64; 2])
+    requires { ⌜ length (now labels) ≡ 2 ⌝ }
+    ensures { λ _. ⌜ now (labels .exit) ≡ variableAdded (now (program .entry)) x (now (labels .entry)) ⌝ }
 {
-    Labels {
-        next,
-        reading: label_role(layout::label_of(program, false, x)),
-        trust: label_role(layout::label_of(program, true, x)),
-    }
+    labels[0] = label_role(layout::label_of(program, false, x)) | labels[0];
+    labels[1] = label_role(layout::label_of(program, true, x)) | labels[1];
 }
 
-// An expression's label joins its variables' labels; constants add nothing.
-pub fn expr_labels(program: &[u8], depth: u8, at: usize) -> Labels
-    ensures { λ r. ⌜ LabelsAt (now (program .entry)) depth at r ⌝ }
+// An expression's label joins its variables' labels; constants add nothing. Where no expression stands any answer is right.
+pub fn expr_labels(program: &[u8], depth: u8, at: usize, labels: &mut [u64; 2]) -> usize
+    requires { ⌜ length (now labels) ≡ 2 ⌝ }
+    ensures { λ r. ⌜ LabelsAt (now (program .entry)) depth at (now (labels .entry)) (now (labels .exit)) r ⌝ }
+    ensures same { λ _. ⌜ length (now (labels .exit)) ≡ 2 ⌝ }
 {
     if depth == 0 {
-        return no_labels(at);
+        return at;
     }
     let ExpressionOf::Is(code) = positions::expression_at(program, at) else {
-        return no_labels(at);
+        return at;
     };
     let next = positions::ahead(program, at, 1);
     match code {
-        Expression::Constant => no_labels(positions::ahead(program, at, 5)),
-        Expression::Variable => variable_labels(
-            program,
-            bytes::byte_at(program, next),
-            positions::ahead(program, at, 2),
-        ),
+        Expression::Constant => positions::ahead(program, at, 5),
+        Expression::Variable => {
+            add_variable(program, bytes::byte_at(program, next), labels);
+            positions::ahead(program, at, 2)
+        }
         Expression::Binary(_) => {
-            let first = expr_labels(program, depth - 1, next);
-            let mid = first.next;
-            let second = expr_labels(program, depth - 1, mid);
-            Labels {
-                next: second.next,
-                reading: first.reading | second.reading,
-                trust: first.trust | second.trust,
-            }
+            let mid = expr_labels(&program[..], depth - 1, next, labels);
+            expr_labels(&program[..], depth - 1, mid, labels)
         }
     }
 }

@@ -2,6 +2,7 @@
 // expression or a list. Each function takes every position; one past the end is the end, and the byte there is 0.
 ghost use mathlib.Core.Path.{_≡_};
 ghost use Prim.Native.Nat.{_≤_};
+ghost use lib.Dec.{eqb};
 ghost use Rattle.model.specs.Bytes.{byte};
 ghost use Rattle.program.specs.Codes.{statementOf, expressionOf, atomOf, kindOf};
 ghost use Rattle.gathered.specs.Positions.{ahead, afterList, ExprEnds};
@@ -22,6 +23,13 @@ pub fn statement_at(program: &[u8], at: usize) -> StatementOf
     ensures { λ r. ⌜ r ≡ statementOf (byte (now (program .entry)) at) ⌝ }
 {
     codes::statement_of(bytes::byte_at(program, at))
+}
+
+// Whether a skip, code 00, would stand at a position.
+pub fn is_skip(program: &[u8], at: usize) -> bool
+    ensures { λ r. ⌜ r ≡ eqb (byte (now (program .entry)) at) 0 ⌝ }
+{
+    bytes::byte_at(program, at) == 0
 }
 
 // The code of the expression that stands at a position.
@@ -81,8 +89,8 @@ pub fn after_expr(program: &[u8], depth: u8, at: usize) -> usize
         Expression::Constant => ahead(program, at, 5),
         Expression::Variable => ahead(program, at, 2),
         Expression::Binary(_) => {
-            let mid = after_expr(program, depth - 1, ahead(program, at, 1));
-            after_expr(program, depth - 1, mid)
+            let mid = after_expr(&program[..], depth - 1, ahead(program, at, 1));
+            after_expr(&program[..], depth - 1, mid)
         }
     }
 }

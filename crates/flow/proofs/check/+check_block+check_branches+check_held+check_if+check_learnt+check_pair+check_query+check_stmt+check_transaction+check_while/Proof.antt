@@ -1,6 +1,7 @@
 -- The cycle of checks: each return is the verdict of the tree that stands at the position, by a law for that return; the
 -- remaining depth falls, and where it stays each callee comes after its caller. A block: what is left of it decides.
-use Rattle.flow.proofs.CheckLaws.{Blocking, pair-first, pair-second, few-roles, ready-too, branches-first, branches-second, held-both, learnt-none, learnt-both, block-start, block-done, block-refused, block-more, block-skip, if-checked, while-checked, query-outside, query-unlisted, query-idle, query-known, query-listed, transaction-nested, transaction-body, stmt-none, stmt-unknown, stmt-skip, stmt-assign, stmt-update, stmt-coded}
+use Rattle.context.specs.Context.{contextOf}
+use Rattle.flow.proofs.CheckLaws.{Blocking, pair-first, pair-second, few-roles, ready-table, ready-held, ready-entered, branches-first, branches-second, held-both, learnt-none, learnt-both, block-start, block-done, block-refused, block-more, block-skip, if-checked, while-checked, query-outside, query-unlisted, query-idle, query-known, query-listed, transaction-nested, transaction-body, stmt-none, stmt-unknown, stmt-skip, stmt-assign, stmt-update, stmt-coded}
 use borrow.Author.Needs.{needs}
 use Prim.Native.Nat.{ℕ, _<_, _+_, _*_}
 use borrow.Fn.Kinds.{In}
@@ -35,24 +36,26 @@ use Rattle.flow.proofs.check.+check_block+check_branches+check_held+che
 use Rattle.flow.proofs.check.check_while.Reads as check-while
 use Rattle.flow.proofs.check.check_while.Kinds as check-while-kinds
 use Rattle.flow.proofs.check.+check_block+check_branches+check_held+check_if+check_learnt+check_pair+check_query+check_stmt+check_transaction+check_while.Lts-check_while as check-while-lts
-use Rattle.flow.proofs.check.body_context.Reads as body-context-reads
 use Rattle.flow.proofs.check.check_assign.Reads as check-assign-reads
 use Rattle.flow.proofs.check.check_update.Reads as check-update-reads
-use Rattle.flow.proofs.check.is_skip.Reads as is-skip-reads
-use Rattle.flow.proofs.context.is_idle.Reads as is-idle-reads
-use Rattle.flow.proofs.context.with_labels.Reads as with-labels-reads
-use Rattle.flow.proofs.context.with_named.Reads as with-named-reads
-use Rattle.flow.proofs.judge.held.Reads as held-reads
-use Rattle.flow.proofs.lists.is_known.Reads as is-known-reads
-use Rattle.flow.proofs.lists.is_listed.Reads as is-listed-reads
-use Rattle.flow.proofs.lists.query_at.Reads as query-at-reads
-use Rattle.flow.proofs.lists.query_roles.Reads as query-roles-reads
+use Rattle.flow.proofs.check.entered_held.Reads as entered-held-reads
+use Rattle.context.proofs.around.count_of.Reads as count-of-reads
+use Rattle.context.proofs.around.is_idle.Reads as is-idle-reads
+use Rattle.context.proofs.around.is_inside.Reads as is-inside-reads
+use Rattle.context.proofs.around.list_of.Reads as list-of-reads
+use Rattle.context.proofs.judge.held.Reads as held-reads
+use Rattle.context.proofs.lists.is_known.Reads as is-known-reads
+use Rattle.context.proofs.lists.is_listed.Reads as is-listed-reads
+use Rattle.context.proofs.lists.query_at.Reads as query-at-reads
+use Rattle.context.proofs.lists.query_roles.Reads as query-roles-reads
 use Rattle.gathered.proofs.labels.expr_labels.Reads as expr-labels-reads
 use Rattle.gathered.proofs.positions.after_list.Reads as after-list-reads
 use Rattle.gathered.proofs.positions.ahead.Reads as ahead-reads
+use Rattle.gathered.proofs.positions.is_skip.Reads as is-skip-reads
 use Rattle.gathered.proofs.positions.statement_at.Reads as statement-at-reads
 use Rattle.order.proofs.learn.learn.Reads as learn-reads
 use Rattle.policy.proofs.rows.roles_of.Reads as roles-of-reads
+use Rattle.program.proofs.answer.refused.Reads as refused-reads
 use Rattle.shared.proofs.bytes.byte_at.Reads as byte-at-reads
 use Rattle.flow.proofs.check.+check_block+check_branches+check_held+check_if+check_learnt+check_pair+check_query+check_stmt+check_transaction+check_while.{
   statement,
@@ -61,139 +64,140 @@ use Rattle.flow.proofs.check.+check_block+check_branches+check_held+che
   close,
 }
 
-abbrev μ-check-block : Measures 3 check-block-kinds.ps ℕ
-μ-check-block κs a = 6 * a .1 .1 .1 .1 .0
+abbrev μ-check-block : Measures 4 check-block-kinds.ps ℕ
+μ-check-block κs a = 6 * a .1 .1 .1 .1 .1 .1 .1 .0
 
-abbrev μ-check-branches : Measures 4 check-branches-kinds.ps ℕ
-μ-check-branches κs a = 6 * a .1 .1 .1 .1 .1 .1 .0 + 2
+abbrev μ-check-branches : Measures 6 check-branches-kinds.ps ℕ
+μ-check-branches κs a = 6 * a .1 .1 .1 .1 .1 .1 .1 .1 .1 .0 + 2
 
-abbrev μ-check-held : Measures 4 check-held-kinds.ps ℕ
-μ-check-held κs a = 6 * a .1 .1 .1 .1 .1 .0 + 3
+abbrev μ-check-held : Measures 5 check-held-kinds.ps ℕ
+μ-check-held κs a = 6 * a .1 .1 .1 .1 .1 .1 .1 .1 .0 + 3
 
-abbrev μ-check-if : Measures 3 check-if-kinds.ps ℕ
-μ-check-if κs a = 6 * a .1 .1 .1 .1 .0
+abbrev μ-check-if : Measures 4 check-if-kinds.ps ℕ
+μ-check-if κs a = 6 * a .1 .1 .1 .1 .1 .1 .1 .0
 
-abbrev μ-check-learnt : Measures 3 check-learnt-kinds.ps ℕ
-μ-check-learnt κs a = 6 * a .1 .1 .1 .1 .0 + 4
+abbrev μ-check-learnt : Measures 4 check-learnt-kinds.ps ℕ
+μ-check-learnt κs a = 6 * a .1 .1 .1 .1 .1 .1 .1 .0 + 4
 
-abbrev μ-check-pair : Measures 3 check-pair-kinds.ps ℕ
-μ-check-pair κs a = 6 * a .1 .1 .1 .1 .0 + 2
+abbrev μ-check-pair : Measures 4 check-pair-kinds.ps ℕ
+μ-check-pair κs a = 6 * a .1 .1 .1 .1 .1 .1 .1 .0 + 2
 
-abbrev μ-check-query : Measures 3 check-query-kinds.ps ℕ
-μ-check-query κs a = 6 * a .1 .1 .1 .1 .0
+abbrev μ-check-query : Measures 4 check-query-kinds.ps ℕ
+μ-check-query κs a = 6 * a .1 .1 .1 .1 .1 .1 .1 .0
 
-abbrev μ-check-stmt : Measures 3 check-stmt-kinds.ps ℕ
-μ-check-stmt κs a = 6 * a .1 .1 .1 .1 .0 + 1
+abbrev μ-check-stmt : Measures 4 check-stmt-kinds.ps ℕ
+μ-check-stmt κs a = 6 * a .1 .1 .1 .1 .1 .1 .1 .0 + 1
 
-abbrev μ-check-transaction : Measures 3 check-transaction-kinds.ps ℕ
-μ-check-transaction κs a = 6 * a .1 .1 .1 .1 .0
+abbrev μ-check-transaction : Measures 4 check-transaction-kinds.ps ℕ
+μ-check-transaction κs a = 6 * a .1 .1 .1 .1 .1 .1 .1 .0
 
-abbrev μ-check-while : Measures 3 check-while-kinds.ps ℕ
-μ-check-while κs a = 6 * a .1 .1 .1 .1 .0
+abbrev μ-check-while : Measures 4 check-while-kinds.ps ℕ
+μ-check-while κs a = 6 * a .1 .1 .1 .1 .1 .1 .1 .0
 
-abbrev check-block-at : ℕ → In 3 check-block-kinds.ps
+abbrev check-block-at : ℕ → In 4 check-block-kinds.ps
 check-block-at t =
-    and 3 check-block-kinds.ps (is 3 check-block-kinds.ps μ-check-block t) check-block.Pre
+    and 4 check-block-kinds.ps (is 4 check-block-kinds.ps μ-check-block t) check-block.Pre
 
-abbrev check-block-below : ℕ → In 3 check-block-kinds.ps
+abbrev check-block-below : ℕ → In 4 check-block-kinds.ps
 check-block-below t =
-    and 3 check-block-kinds.ps (falls 3 check-block-kinds.ps _<_ μ-check-block t) check-block.Pre
+    and 4 check-block-kinds.ps (falls 4 check-block-kinds.ps _<_ μ-check-block t) check-block.Pre
 
-abbrev check-branches-at : ℕ → In 4 check-branches-kinds.ps
+abbrev check-branches-at : ℕ → In 6 check-branches-kinds.ps
 check-branches-at t =
     and
-    4
+    6
     check-branches-kinds.ps
-    (is 4 check-branches-kinds.ps μ-check-branches t)
+    (is 6 check-branches-kinds.ps μ-check-branches t)
     check-branches.Pre
 
-abbrev check-branches-below : ℕ → In 4 check-branches-kinds.ps
+abbrev check-branches-below : ℕ → In 6 check-branches-kinds.ps
 check-branches-below t =
     and
-    4
+    6
     check-branches-kinds.ps
-    (falls 4 check-branches-kinds.ps _<_ μ-check-branches t)
+    (falls 6 check-branches-kinds.ps _<_ μ-check-branches t)
     check-branches.Pre
 
-abbrev check-held-at : ℕ → In 4 check-held-kinds.ps
-check-held-at t = and 4 check-held-kinds.ps (is 4 check-held-kinds.ps μ-check-held t) check-held.Pre
+abbrev check-held-at : ℕ → In 5 check-held-kinds.ps
+check-held-at t =
+    and 5 check-held-kinds.ps (is 5 check-held-kinds.ps μ-check-held t) check-held.Pre
 
-abbrev check-held-below : ℕ → In 4 check-held-kinds.ps
+abbrev check-held-below : ℕ → In 5 check-held-kinds.ps
 check-held-below t =
-    and 4 check-held-kinds.ps (falls 4 check-held-kinds.ps _<_ μ-check-held t) check-held.Pre
+    and 5 check-held-kinds.ps (falls 5 check-held-kinds.ps _<_ μ-check-held t) check-held.Pre
 
-abbrev check-if-at : ℕ → In 3 check-if-kinds.ps
-check-if-at t = and 3 check-if-kinds.ps (is 3 check-if-kinds.ps μ-check-if t) check-if.Pre
+abbrev check-if-at : ℕ → In 4 check-if-kinds.ps
+check-if-at t = and 4 check-if-kinds.ps (is 4 check-if-kinds.ps μ-check-if t) check-if.Pre
 
-abbrev check-if-below : ℕ → In 3 check-if-kinds.ps
+abbrev check-if-below : ℕ → In 4 check-if-kinds.ps
 check-if-below t =
-    and 3 check-if-kinds.ps (falls 3 check-if-kinds.ps _<_ μ-check-if t) check-if.Pre
+    and 4 check-if-kinds.ps (falls 4 check-if-kinds.ps _<_ μ-check-if t) check-if.Pre
 
-abbrev check-learnt-at : ℕ → In 3 check-learnt-kinds.ps
+abbrev check-learnt-at : ℕ → In 4 check-learnt-kinds.ps
 check-learnt-at t =
-    and 3 check-learnt-kinds.ps (is 3 check-learnt-kinds.ps μ-check-learnt t) check-learnt.Pre
+    and 4 check-learnt-kinds.ps (is 4 check-learnt-kinds.ps μ-check-learnt t) check-learnt.Pre
 
-abbrev check-learnt-below : ℕ → In 3 check-learnt-kinds.ps
+abbrev check-learnt-below : ℕ → In 4 check-learnt-kinds.ps
 check-learnt-below t =
     and
-    3
+    4
     check-learnt-kinds.ps
-    (falls 3 check-learnt-kinds.ps _<_ μ-check-learnt t)
+    (falls 4 check-learnt-kinds.ps _<_ μ-check-learnt t)
     check-learnt.Pre
 
-abbrev check-pair-at : ℕ → In 3 check-pair-kinds.ps
+abbrev check-pair-at : ℕ → In 4 check-pair-kinds.ps
 check-pair-at t =
-    and 3 check-pair-kinds.ps (is 3 check-pair-kinds.ps μ-check-pair t) check-pair.Pre
+    and 4 check-pair-kinds.ps (is 4 check-pair-kinds.ps μ-check-pair t) check-pair.Pre
 
-abbrev check-pair-below : ℕ → In 3 check-pair-kinds.ps
+abbrev check-pair-below : ℕ → In 4 check-pair-kinds.ps
 check-pair-below t =
-    and 3 check-pair-kinds.ps (falls 3 check-pair-kinds.ps _<_ μ-check-pair t) check-pair.Pre
+    and 4 check-pair-kinds.ps (falls 4 check-pair-kinds.ps _<_ μ-check-pair t) check-pair.Pre
 
-abbrev check-query-at : ℕ → In 3 check-query-kinds.ps
+abbrev check-query-at : ℕ → In 4 check-query-kinds.ps
 check-query-at t =
-    and 3 check-query-kinds.ps (is 3 check-query-kinds.ps μ-check-query t) check-query.Pre
+    and 4 check-query-kinds.ps (is 4 check-query-kinds.ps μ-check-query t) check-query.Pre
 
-abbrev check-query-below : ℕ → In 3 check-query-kinds.ps
+abbrev check-query-below : ℕ → In 4 check-query-kinds.ps
 check-query-below t =
-    and 3 check-query-kinds.ps (falls 3 check-query-kinds.ps _<_ μ-check-query t) check-query.Pre
+    and 4 check-query-kinds.ps (falls 4 check-query-kinds.ps _<_ μ-check-query t) check-query.Pre
 
-abbrev check-stmt-at : ℕ → In 3 check-stmt-kinds.ps
+abbrev check-stmt-at : ℕ → In 4 check-stmt-kinds.ps
 check-stmt-at t =
-    and 3 check-stmt-kinds.ps (is 3 check-stmt-kinds.ps μ-check-stmt t) check-stmt.Pre
+    and 4 check-stmt-kinds.ps (is 4 check-stmt-kinds.ps μ-check-stmt t) check-stmt.Pre
 
-abbrev check-stmt-below : ℕ → In 3 check-stmt-kinds.ps
+abbrev check-stmt-below : ℕ → In 4 check-stmt-kinds.ps
 check-stmt-below t =
-    and 3 check-stmt-kinds.ps (falls 3 check-stmt-kinds.ps _<_ μ-check-stmt t) check-stmt.Pre
+    and 4 check-stmt-kinds.ps (falls 4 check-stmt-kinds.ps _<_ μ-check-stmt t) check-stmt.Pre
 
-abbrev check-transaction-at : ℕ → In 3 check-transaction-kinds.ps
+abbrev check-transaction-at : ℕ → In 4 check-transaction-kinds.ps
 check-transaction-at t =
     and
-    3
+    4
     check-transaction-kinds.ps
-    (is 3 check-transaction-kinds.ps μ-check-transaction t)
+    (is 4 check-transaction-kinds.ps μ-check-transaction t)
     check-transaction.Pre
 
-abbrev check-transaction-below : ℕ → In 3 check-transaction-kinds.ps
+abbrev check-transaction-below : ℕ → In 4 check-transaction-kinds.ps
 check-transaction-below t =
     and
-    3
+    4
     check-transaction-kinds.ps
-    (falls 3 check-transaction-kinds.ps _<_ μ-check-transaction t)
+    (falls 4 check-transaction-kinds.ps _<_ μ-check-transaction t)
     check-transaction.Pre
 
-abbrev check-while-at : ℕ → In 3 check-while-kinds.ps
+abbrev check-while-at : ℕ → In 4 check-while-kinds.ps
 check-while-at t =
-    and 3 check-while-kinds.ps (is 3 check-while-kinds.ps μ-check-while t) check-while.Pre
+    and 4 check-while-kinds.ps (is 4 check-while-kinds.ps μ-check-while t) check-while.Pre
 
-abbrev check-while-below : ℕ → In 3 check-while-kinds.ps
+abbrev check-while-below : ℕ → In 4 check-while-kinds.ps
 check-while-below t =
-    and 3 check-while-kinds.ps (falls 3 check-while-kinds.ps _<_ μ-check-while t) check-while.Pre
+    and 4 check-while-kinds.ps (falls 4 check-while-kinds.ps _<_ μ-check-while t) check-while.Pre
 
 abbrev check-block-Inv-loop : check-block-lts.InvT-loop
-check-block-Inv-loop policy program table context depth at inner left₀ next₀ left next = Blocking policy program table context depth at left next
+check-block-Inv-loop policy program table around readers trusters asked depth at inner left₀ next₀ left next = Blocking policy program table (contextOf around readers trusters asked) depth at left next
 
 abbrev check-block-μ-loop : check-block-lts.MeasureT-loop
-check-block-μ-loop policy program table context depth at inner left₀ next₀ left next = left
+check-block-μ-loop policy program table around readers trusters asked depth at inner left₀ next₀ left next = left
 
 pub +check-block+check-branches+check-held+check-if+check-learnt+check-pair+check-query+check-stmt+check-transaction+check-while-spec :
     {M : Type 1} → statement M
@@ -234,8 +238,6 @@ pub +check-block+check-branches+check-held+check-if+check-learnt+check-pair+chec
     (λ c. search needs)
     (λ c. search (needs, block-skip))
     (λ c κs. search needs)
-    (λ c. search needs)
-    (λ c. search needs)
     (λ c. search (needs, block-refused))
     (λ c. search needs)
     (λ c. search needs)
@@ -246,8 +248,6 @@ pub +check-block+check-branches+check-held+check-if+check-learnt+check-pair+chec
     (check-branches-at t)
     check-branches.Post
     (λ c κs. search needs)
-    (λ c. search needs)
-    (λ c. search needs)
     (λ c. search (needs, branches-first))
     (λ c κs. search needs)
     (λ c. search (needs, branches-second)))
@@ -260,15 +260,13 @@ pub +check-block+check-branches+check-held+check-if+check-learnt+check-pair+chec
     (check-held-at t)
     check-held.Post
     (λ c κs. search needs)
-    (λ c κs. search needs)
+    (λ c κs. search (needs, ready-held))
     (λ c. search (needs, held-both)))
     (λ t. check-if-lts.spec (
       ahead-reads.Asked,
       ahead-reads.Learnt,
       expr-labels-reads.Asked,
       expr-labels-reads.Learnt,
-      with-labels-reads.Asked,
-      with-labels-reads.Learnt,
       check-pair-below t,
       check-pair.Post,
     )
@@ -276,13 +274,16 @@ pub +check-block+check-branches+check-held+check-if+check-learnt+check-pair+chec
     check-if.Post
     (λ c κs. search needs)
     (λ c κs. search needs)
-    (λ c κs. search needs)
+    (λ c. search needs)
+    (λ c. search needs)
     (λ c. search needs)
     (λ c κs. search needs)
     (λ c. search (needs, if-checked)))
     (λ t. check-learnt-lts.spec (
       query-at-reads.Asked,
       query-at-reads.Learnt,
+      refused-reads.Asked,
+      refused-reads.Learnt,
       roles-of-reads.Asked,
       roles-of-reads.Learnt,
       learn-reads.Asked,
@@ -295,31 +296,34 @@ pub +check-block+check-branches+check-held+check-if+check-learnt+check-pair+chec
     (λ c κs. search needs)
     (λ c. search needs)
     (λ c. search needs)
+    (λ c κs. search needs)
     (λ c. search (needs, learnt-none))
     (λ c. search needs)
     (λ c κs. search needs)
     (λ c κs. search (needs, few-roles))
-    (λ c κs. search (needs, ready-too))
+    (λ c κs. search (needs, ready-table))
     (λ c. search (needs, learnt-both)))
     (λ t. check-pair-lts.spec
     (check-stmt-below t, check-stmt.Post)
     (check-pair-at t)
     check-pair.Post
     (λ c κs. search needs)
-    (λ c. search needs)
-    (λ c. search needs)
     (λ c. search (needs, pair-first))
     (λ c κs. search needs)
     (λ c. search (needs, pair-second)))
     (λ t. check-query-lts.spec (
+      is-inside-reads.Asked,
+      is-inside-reads.Learnt,
       ahead-reads.Asked,
       ahead-reads.Learnt,
+      count-of-reads.Asked,
+      count-of-reads.Learnt,
+      list-of-reads.Asked,
+      list-of-reads.Learnt,
       is-listed-reads.Asked,
       is-listed-reads.Learnt,
       query-roles-reads.Asked,
       query-roles-reads.Learnt,
-      with-named-reads.Asked,
-      with-named-reads.Learnt,
       is-idle-reads.Asked,
       is-idle-reads.Learnt,
       check-pair-below t,
@@ -330,6 +334,8 @@ pub +check-block+check-branches+check-held+check-if+check-learnt+check-pair+chec
       check-branches.Post,
       check-learnt-below t,
       check-learnt.Post,
+      refused-reads.Asked,
+      refused-reads.Learnt,
     )
     (check-query-at t)
     check-query.Post
@@ -340,16 +346,22 @@ pub +check-block+check-branches+check-held+check-if+check-learnt+check-pair+chec
     (λ c κs. search needs)
     (λ c κs. search needs)
     (λ c κs. search needs)
-    (λ c κs. (search (needs, c .before .before .before .before .before .before .before .before .before .before .before .before .pre), search (needs, c .before .before .before .before .before .before .before .before .before .before .before .before .pre)))
+    (λ c κs. search needs)
+    (λ c κs. search needs)
+    (λ c κs. search needs)
     (λ c. search (needs, query-idle))
     (λ c κs. search needs)
-    (λ c κs. (search (needs, c .before .before .before .before .before .before .before .before .before .before .before .before .before .before .before .pre), search (needs, c .before .before .before .before .before .before .before .before .before .before .before .before .before .before .before .pre)))
+    (λ c κs. search needs)
     (λ c. search (needs, query-known))
-    (λ c κs. (search (needs, c .before .before .before .before .before .before .before .before .before .before .before .before .before .before .before .pre), search (needs, c .before .before .before .before .before .before .before .before .before .before .before .before .before .before .before .pre)))
+    (λ c κs. search needs)
     (λ c. search (needs, query-listed))
+    (λ c κs. search needs)
     (λ c. search (needs, query-unlisted))
+    (λ c κs. search needs)
     (λ c. search (needs, query-outside)))
     (λ t. check-stmt-lts.spec (
+      refused-reads.Asked,
+      refused-reads.Learnt,
       statement-at-reads.Asked,
       statement-at-reads.Learnt,
       ahead-reads.Asked,
@@ -371,10 +383,12 @@ pub +check-block+check-branches+check-held+check-if+check-learnt+check-pair+chec
     )
     (check-stmt-at t)
     check-stmt.Post
+    (λ c κs. search needs)
     (λ c. search (needs, stmt-none))
     (λ c κs. search needs)
     (λ c. search needs)
     (λ c. search needs)
+    (λ c κs. search needs)
     (λ c. search (needs, stmt-unknown))
     (λ c. search needs)
     (λ c κs. search needs)
@@ -401,28 +415,32 @@ pub +check-block+check-branches+check-held+check-if+check-learnt+check-pair+chec
     (λ c. search (needs, stmt-update))
     (λ c. search (needs, stmt-coded)))
     (λ t. check-transaction-lts.spec (
+      is-inside-reads.Asked,
+      is-inside-reads.Learnt,
+      refused-reads.Asked,
+      refused-reads.Learnt,
       after-list-reads.Asked,
       after-list-reads.Learnt,
-      body-context-reads.Asked,
-      body-context-reads.Learnt,
+      entered-held-reads.Asked,
+      entered-held-reads.Learnt,
       check-stmt-below t,
       check-stmt.Post,
     )
     (check-transaction-at t)
     check-transaction.Post
+    (λ c κs. search needs)
+    (λ c κs. search needs)
     (λ c. search (needs, transaction-nested))
     (λ c. search needs)
     (λ c κs. search needs)
     (λ c κs. search needs)
-    (λ c κs. search needs)
+    (λ c κs. search (needs, ready-entered))
     (λ c. search (needs, transaction-body)))
     λ t. check-while-lts.spec (
       ahead-reads.Asked,
       ahead-reads.Learnt,
       expr-labels-reads.Asked,
       expr-labels-reads.Learnt,
-      with-labels-reads.Asked,
-      with-labels-reads.Learnt,
       check-stmt-below t,
       check-stmt.Post,
     )
@@ -430,7 +448,8 @@ pub +check-block+check-branches+check-held+check-if+check-learnt+check-pair+chec
     check-while.Post
     (λ c κs. search needs)
     (λ c κs. search needs)
-    (λ c κs. search needs)
+    (λ c. search needs)
+    (λ c. search needs)
     (λ c. search needs)
     (λ c κs. search needs)
     (λ c. search (needs, while-checked))

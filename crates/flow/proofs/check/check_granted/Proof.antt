@@ -16,4 +16,5 @@ check-granted-spec =
     (λ c κs. search needs)
     (λ c κs. search needs)
     (λ c. search update-number depth 1 fits 20000)
+    (λ c κs. search needs)
     (λ c. search (needs, update-grant)))

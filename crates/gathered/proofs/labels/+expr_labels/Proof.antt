@@ -1,6 +1,6 @@
 -- The walk calls itself only with one less of depth, which is the measure; a law for each kind of expression puts the labels
 -- of its parts together.
-use Rattle.gathered.proofs.LabelLaws.{labels-none, labels-unknown, labels-constant, labels-variable, labels-binary}
+use Rattle.gathered.proofs.LabelLaws.{labels, labels-binary}
 use borrow.Author.Needs.{needs}
 use Prim.Native.Nat.{ℕ, _<_}
 use borrow.Fn.Kinds.{In}
@@ -8,52 +8,46 @@ use borrow.Fn.PlainCycle.{Measures, is, falls, and}
 use Rattle.gathered.proofs.labels.expr_labels.Reads as expr-labels
 use Rattle.gathered.proofs.labels.expr_labels.Kinds as expr-labels-kinds
 use Rattle.gathered.proofs.labels.+expr_labels.Lts-expr_labels as expr-labels-lts
-use Rattle.gathered.proofs.labels.no_labels.Reads as no-labels-reads
-use Rattle.gathered.proofs.labels.variable_labels.Reads as variable-labels-reads
+use Rattle.gathered.proofs.labels.add_variable.Reads as add-variable-reads
 use Rattle.gathered.proofs.positions.ahead.Reads as ahead-reads
-use Rattle.shared.proofs.bytes.byte_at.Reads as byte-at-reads
 use Rattle.gathered.proofs.positions.expression_at.Reads as expression-at-reads
+use Rattle.shared.proofs.bytes.byte_at.Reads as byte-at-reads
 use Rattle.gathered.proofs.labels.+expr_labels.{statement}
 use Rattle.gathered.proofs.labels.+expr_labels.Tie.{close}
 
-abbrev μ-expr-labels : Measures 1 expr-labels-kinds.ps ℕ
+abbrev μ-expr-labels : Measures 2 expr-labels-kinds.ps ℕ
 μ-expr-labels κs a = a .1 .0
 
-abbrev expr-labels-at : ℕ → In 1 expr-labels-kinds.ps
+abbrev expr-labels-at : ℕ → In 2 expr-labels-kinds.ps
 expr-labels-at t =
-    and 1 expr-labels-kinds.ps (is 1 expr-labels-kinds.ps μ-expr-labels t) expr-labels.Pre
+    and 2 expr-labels-kinds.ps (is 2 expr-labels-kinds.ps μ-expr-labels t) expr-labels.Pre
 
-abbrev expr-labels-below : ℕ → In 1 expr-labels-kinds.ps
+abbrev expr-labels-below : ℕ → In 2 expr-labels-kinds.ps
 expr-labels-below t =
-    and 1 expr-labels-kinds.ps (falls 1 expr-labels-kinds.ps _<_ μ-expr-labels t) expr-labels.Pre
+    and 2 expr-labels-kinds.ps (falls 2 expr-labels-kinds.ps _<_ μ-expr-labels t) expr-labels.Pre
 
 pub +expr-labels-spec : {M : Type 1} → statement M
 +expr-labels-spec = close μ-expr-labels λ t. expr-labels-lts.spec (
-  no-labels-reads.Asked,
-  no-labels-reads.Learnt,
   expression-at-reads.Asked,
   expression-at-reads.Learnt,
   ahead-reads.Asked,
   ahead-reads.Learnt,
   byte-at-reads.Asked,
   byte-at-reads.Learnt,
-  variable-labels-reads.Asked,
-  variable-labels-reads.Learnt,
+  add-variable-reads.Asked,
+  add-variable-reads.Learnt,
   expr-labels-below t,
   expr-labels.Post,
 )
     (expr-labels-at t)
     expr-labels.Post
-    (λ c κs. search needs)
-    (λ c. search (needs, labels-none))
-    (λ c κs. search needs)
-    (λ c. search needs)
-    (λ c. search needs)
-    (λ c κs. search needs)
-    (λ c. search (needs, labels-unknown))
+    (λ c. search (needs, labels))
     (λ c κs. search needs)
     (λ c. search needs)
+    (λ c. search needs)
+    (λ c. search (needs, labels))
     (λ c κs. search needs)
+    (λ c. search needs)
     (λ c κs. search needs)
     (λ c. search needs)
     (λ c κs. search needs)
@@ -64,6 +58,6 @@ pub +expr-labels-spec : {M : Type 1} → statement M
     (λ c κs. search needs)
     (λ c. search needs)
     (λ c κs. search needs)
-    (λ c. search (needs, labels-constant))
-    (λ c. search (needs, labels-variable))
-    (λ c. search labels-binary depth 1 fits 20000)
+    (λ c. search (needs, labels))
+    (λ c. search (needs, labels))
+    (λ c. (search labels-binary depth 1 fits 20000, search needs))

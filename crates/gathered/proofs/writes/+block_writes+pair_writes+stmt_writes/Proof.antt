@@ -1,5 +1,7 @@
 -- A statement calls a part with one less of depth, and a part calls statements with what it was given: twice the depth, and
--- one more in a part, falls at every call. A block's loop keeps that what is gathered, with what is left, is what all writes.
+-- one more in a part, falls at every call. A block's loop keeps that what is left adds to the words as they are what all adds.
+use mathlib.Core.Path.{_≡_}
+use lib.ListN.{length}
 use Rattle.gathered.proofs.WriteLaws.{Gathering, gatherings, pair-both, writes}
 use borrow.Author.Needs.{needs}
 use Prim.Native.Nat.{ℕ, _<_, _+_, _*_}
@@ -17,57 +19,56 @@ use Rattle.gathered.proofs.writes.+block_writes+pair_writes+stmt_writes
 use Rattle.gathered.proofs.positions.after_expr.Reads as after-expr-reads
 use Rattle.gathered.proofs.positions.after_list.Reads as after-list-reads
 use Rattle.gathered.proofs.positions.ahead.Reads as ahead-reads
-use Rattle.shared.proofs.bytes.byte_at.Reads as byte-at-reads
+use Rattle.gathered.proofs.positions.is_skip.Reads as is-skip-reads
 use Rattle.gathered.proofs.positions.statement_at.Reads as statement-at-reads
 use Rattle.gathered.proofs.writes.assign_writes.Reads as assign-writes-reads
-use Rattle.gathered.proofs.writes.joined.Reads as joined-reads
-use Rattle.gathered.proofs.writes.nothing.Reads as nothing-reads
 use Rattle.gathered.proofs.writes.update_writes.Reads as update-writes-reads
+use Rattle.shared.proofs.bytes.byte_at.Reads as byte-at-reads
 use Rattle.gathered.proofs.writes.+block_writes+pair_writes+stmt_writes.{statement}
 use Rattle.gathered.proofs.writes.+block_writes+pair_writes+stmt_writes.Tie.{close}
 
-abbrev μ-block-writes : Measures 1 block-writes-kinds.ps ℕ
+abbrev μ-block-writes : Measures 2 block-writes-kinds.ps ℕ
 μ-block-writes κs a = 2 * a .1 .0 + 1
 
-abbrev μ-pair-writes : Measures 1 pair-writes-kinds.ps ℕ
+abbrev μ-pair-writes : Measures 2 pair-writes-kinds.ps ℕ
 μ-pair-writes κs a = 2 * a .1 .0 + 1
 
-abbrev μ-stmt-writes : Measures 1 stmt-writes-kinds.ps ℕ
+abbrev μ-stmt-writes : Measures 2 stmt-writes-kinds.ps ℕ
 μ-stmt-writes κs a = 2 * a .1 .0
 
-abbrev block-writes-at : ℕ → In 1 block-writes-kinds.ps
+abbrev block-writes-at : ℕ → In 2 block-writes-kinds.ps
 block-writes-at t =
-    and 1 block-writes-kinds.ps (is 1 block-writes-kinds.ps μ-block-writes t) block-writes.Pre
+    and 2 block-writes-kinds.ps (is 2 block-writes-kinds.ps μ-block-writes t) block-writes.Pre
 
-abbrev block-writes-below : ℕ → In 1 block-writes-kinds.ps
+abbrev block-writes-below : ℕ → In 2 block-writes-kinds.ps
 block-writes-below t =
     and
-    1
+    2
     block-writes-kinds.ps
-    (falls 1 block-writes-kinds.ps _<_ μ-block-writes t)
+    (falls 2 block-writes-kinds.ps _<_ μ-block-writes t)
     block-writes.Pre
 
-abbrev pair-writes-at : ℕ → In 1 pair-writes-kinds.ps
+abbrev pair-writes-at : ℕ → In 2 pair-writes-kinds.ps
 pair-writes-at t =
-    and 1 pair-writes-kinds.ps (is 1 pair-writes-kinds.ps μ-pair-writes t) pair-writes.Pre
+    and 2 pair-writes-kinds.ps (is 2 pair-writes-kinds.ps μ-pair-writes t) pair-writes.Pre
 
-abbrev pair-writes-below : ℕ → In 1 pair-writes-kinds.ps
+abbrev pair-writes-below : ℕ → In 2 pair-writes-kinds.ps
 pair-writes-below t =
-    and 1 pair-writes-kinds.ps (falls 1 pair-writes-kinds.ps _<_ μ-pair-writes t) pair-writes.Pre
+    and 2 pair-writes-kinds.ps (falls 2 pair-writes-kinds.ps _<_ μ-pair-writes t) pair-writes.Pre
 
-abbrev stmt-writes-at : ℕ → In 1 stmt-writes-kinds.ps
+abbrev stmt-writes-at : ℕ → In 2 stmt-writes-kinds.ps
 stmt-writes-at t =
-    and 1 stmt-writes-kinds.ps (is 1 stmt-writes-kinds.ps μ-stmt-writes t) stmt-writes.Pre
+    and 2 stmt-writes-kinds.ps (is 2 stmt-writes-kinds.ps μ-stmt-writes t) stmt-writes.Pre
 
-abbrev stmt-writes-below : ℕ → In 1 stmt-writes-kinds.ps
+abbrev stmt-writes-below : ℕ → In 2 stmt-writes-kinds.ps
 stmt-writes-below t =
-    and 1 stmt-writes-kinds.ps (falls 1 stmt-writes-kinds.ps _<_ μ-stmt-writes t) stmt-writes.Pre
+    and 2 stmt-writes-kinds.ps (falls 2 stmt-writes-kinds.ps _<_ μ-stmt-writes t) stmt-writes.Pre
 
 abbrev block-writes-Inv-loop : block-writes-lts.InvT-loop
-block-writes-Inv-loop program depth at statements₀ all₀ statements all = Gathering program depth at statements all
+block-writes-Inv-loop program depth at written₀ statements₀ next₀ written statements next = (length written ≡ 2) × Gathering program depth at written₀ statements next written
 
 abbrev block-writes-μ-loop : block-writes-lts.MeasureT-loop
-block-writes-μ-loop program depth at statements₀ all₀ statements all = statements
+block-writes-μ-loop program depth at written₀ statements₀ next₀ written statements next = statements
 
 pub +block-writes+pair-writes+stmt-writes-spec : {M : Type 1} → statement M
 +block-writes+pair-writes+stmt-writes-spec =
@@ -76,12 +77,10 @@ pub +block-writes+pair-writes+stmt-writes-spec : {M : Type 1} → statement M
       byte-at-reads.Learnt,
       ahead-reads.Asked,
       ahead-reads.Learnt,
-      nothing-reads.Asked,
-      nothing-reads.Learnt,
+      is-skip-reads.Asked,
+      is-skip-reads.Learnt,
       stmt-writes-below t,
       stmt-writes.Post,
-      joined-reads.Asked,
-      joined-reads.Learnt,
     )
     (block-writes-at t)
     block-writes.Post
@@ -89,29 +88,25 @@ pub +block-writes+pair-writes+stmt-writes-spec : {M : Type 1} → statement M
     block-writes-μ-loop
     (λ c κs. search needs)
     (λ c κs. search needs)
-    (λ c κs. search needs)
     (λ c. search (needs, gatherings))
     (λ c κs. search needs)
+    (λ c κs. search needs)
+    (λ c. search needs)
+    (λ c. search needs)
+    (λ c. search (needs, gatherings))
     (λ c κs. search needs)
     (λ c. search needs)
     (λ c. search needs)
     (λ c. search (needs, gatherings))
     (λ c. search (needs, gatherings)))
-    (λ t. pair-writes-lts.spec (
-      stmt-writes-below t,
-      stmt-writes.Post,
-      joined-reads.Asked,
-      joined-reads.Learnt,
-    )
+    (λ t. pair-writes-lts.spec
+    (stmt-writes-below t, stmt-writes.Post)
     (pair-writes-at t)
     pair-writes.Post
     (λ c κs. search needs)
     (λ c κs. search needs)
-    (λ c κs. search needs)
     (λ c. search (needs, pair-both)))
     λ t. stmt-writes-lts.spec (
-      nothing-reads.Asked,
-      nothing-reads.Learnt,
       statement-at-reads.Asked,
       statement-at-reads.Learnt,
       ahead-reads.Asked,
@@ -133,17 +128,14 @@ pub +block-writes+pair-writes+stmt-writes-spec : {M : Type 1} → statement M
     )
     (stmt-writes-at t)
     stmt-writes.Post
-    (λ c κs. search needs)
     (λ c. search (needs, writes))
     (λ c κs. search needs)
     (λ c. search needs)
     (λ c. search needs)
-    (λ c κs. search needs)
     (λ c. search (needs, writes))
     (λ c. search needs)
     (λ c κs. search needs)
     (λ c. search needs)
-    (λ c κs. search needs)
     (λ c. search needs)
     (λ c κs. search needs)
     (λ c. search needs)

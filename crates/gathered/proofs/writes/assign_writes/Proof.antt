@@ -1,4 +1,4 @@
-use Rattle.gathered.proofs.WriteLaws.{assign-writes}
+use Rattle.gathered.proofs.WriteLaws.{assigns}
 use borrow.Author.Needs.{needs}
 use Rattle.gathered.proofs.writes.assign_writes.Statement.{statement}
 use Rattle.gathered.proofs.writes.assign_writes.Tie as tie
@@ -11,7 +11,9 @@ assign-writes-spec =
     (λ c κs. search needs)
     (λ c κs. search needs)
     (λ c κs. search needs)
-    (λ c κs. search needs)
     (λ c. search needs)
     (λ c κs. search needs)
-    (λ c. search (needs, assign-writes)))
+    (λ c. search needs)
+    (λ c. search needs)
+    (λ c κs. search needs)
+    (λ c. search (needs, assigns)))

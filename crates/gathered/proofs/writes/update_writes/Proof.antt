@@ -5,10 +5,10 @@ use Rattle.gathered.proofs.writes.update_writes.Statement.{statement}
 use Rattle.gathered.proofs.writes.update_writes.Tie as tie
 
 abbrev Inv-loop : tie.InvT-loop
-Inv-loop program at mutations₀ next₀ mutated₀ mutations next mutated = Mutating program at mutations next mutated
+Inv-loop program at written mutations₀ next₀ mutated₀ mutations next mutated = Mutating program at mutations next mutated
 
 abbrev μ-loop : tie.MeasureT-loop
-μ-loop program at mutations₀ next₀ mutated₀ mutations next mutated = mutations
+μ-loop program at written mutations₀ next₀ mutated₀ mutations next mutated = mutations
 
 pub update-writes-spec : {M : Type 1} → statement M
 update-writes-spec =
@@ -28,4 +28,6 @@ update-writes-spec =
     (λ c. search needs)
     (λ c. search needs)
     (λ c. search (needs, mutatings))
+    (λ c. search needs)
+    (λ c. search needs)
     (λ c. search (needs, mutatings)))

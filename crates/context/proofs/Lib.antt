@@ -1,0 +1,3 @@
+pub mod ContextLaws
+mod JudgeLaws
+pub mod ListLaws

@@ -1,0 +1,173 @@
+// The lists of a transaction and of an update: which queries are listed, which roles they name, whether the policy file
+// allows what is added. Where a list was refused any answer is right, so each function takes every position.
+ghost use mathlib.Core.Path.{_≡_};
+ghost use lib.ListN.{length};
+ghost use Rattle.model.specs.Policy.{Accepted};
+ghost use Rattle.order.specs.Table.{tableWords, queryOf, queryRoles};
+ghost use Rattle.context.specs.Lists.{SameAt, ListedAt, QueryAt, KnownAt, QueryRolesAt, ListRolesAt, HoldsRight, TakesRight, OneAllowedAt, AllowedAt};
+use gathered::positions;
+use order::table;
+use policy::rows;
+use program::codes::Atom;
+use program::codes::AtomOf;
+use program::codes::Kind;
+use program::codes::KindOf;
+use shared::bytes;
+
+// Whether the query that stands at `at` is the one that stands at `other`: both bytes are the same.
+fn is_same(program: &[u8], at: usize, other: usize) -> bool
+    ensures { λ r. ⌜ SameAt (now (program .entry)) at other r ⌝ }
+{
+    if bytes::byte_at(program, other) != bytes::byte_at(program, at) {
+        return false;
+    }
+    bytes::byte_at(program, positions::ahead(program, other, 1))
+        == bytes::byte_at(program, positions::ahead(program, at, 1))
+}
+
+// Whether the query that stands at `other` is among the n queries that stand at `at`.
+pub fn is_listed(program: &[u8], n: u64, at: usize, other: usize) -> bool
+    ensures { λ r. ⌜ ListedAt (now (program .entry)) n at other r ⌝ }
+{
+    let mut left = n;
+    let mut here = at;
+    while 0 < left {
+        if is_same(program, here, other) {
+            return true;
+        }
+        here = positions::ahead(program, here, positions::QUERY_BYTES);
+        left -= 1;
+    }
+    false
+}
+
+// The atoms of a query, or none where one of its bytes is no atom.
+pub enum QueryOf {
+    Is(Atom, Atom),
+    No,
+}
+
+// The query that stands at `at`.
+pub fn query_at(program: &[u8], at: usize) -> QueryOf
+    ensures { λ r. ⌜ QueryAt (now (program .entry)) at r ⌝ }
+{
+    let AtomOf::Is(first) = positions::atom_at(program, at) else {
+        return QueryOf::No;
+    };
+    let AtomOf::Is(second) = positions::atom_at(program, positions::ahead(program, at, 1)) else {
+        return QueryOf::No;
+    };
+    QueryOf::Is(first, second)
+}
+
+// The roles that the two atoms of a query name.
+pub fn named_roles(first: Atom, second: Atom) -> u64
+    ensures { λ r. ⌜ r ≡ queryRoles (queryOf first second) ⌝ }
+{
+    table::named(first) | table::named(second)
+}
+
+// The roles named in the query that stands at `at`.
+pub fn query_roles(program: &[u8], at: usize) -> u64
+    ensures { λ r. ⌜ QueryRolesAt (now (program .entry)) at r ⌝ }
+{
+    let QueryOf::Is(first, second) = query_at(program, at) else {
+        return 0;
+    };
+    named_roles(first, second)
+}
+
+// Whether the table knows the query that stands at `at` already.
+pub fn is_known(program: &[u8], table: &[u64], at: usize) -> bool
+    requires { ⌜ length (now table) ≡ tableWords ⌝ }
+    ensures { λ r. ⌜ KnownAt (now (program .entry)) (now (table .entry)) at r ⌝ }
+{
+    let QueryOf::Is(first, second) = query_at(program, at) else {
+        return false;
+    };
+    order::learn::is_known(table, first, second)
+}
+
+// The roles named in the n queries that stand at `at`.
+pub fn list_roles(program: &[u8], n: u8, at: usize) -> u64
+    ensures { λ r. ⌜ ListRolesAt (now (program .entry)) n at r ⌝ }
+{
+    let mut found: u64 = 0;
+    let mut unread = n;
+    let mut here = at;
+    while 0 < unread {
+        found = found | query_roles(program, here);
+        here = positions::ahead(program, here, positions::QUERY_BYTES);
+        unread -= 1;
+    }
+    found
+}
+
+// Whether a role that there is may have the principal as a member.
+fn may_hold(policy: &[u8], role: u8, principal: u8) -> bool
+    requires { ⌜ Accepted (now policy) ⌝ }
+    ensures { λ r. ⌜ HoldsRight (now (policy .entry)) role principal r ⌝ }
+{
+    if rows::roles_of(policy) <= role {
+        return false;
+    }
+    rows::may_hold(
+        policy,
+        bytes::wide(role) as usize,
+        bytes::wide(principal) as u64,
+    )
+}
+
+// Whether a role that there is may take in another.
+fn may_take(policy: &[u8], role: u8, other: u8) -> bool
+    requires { ⌜ Accepted (now policy) ⌝ }
+    ensures { λ r. ⌜ TakesRight (now (policy .entry)) role other r ⌝ }
+{
+    let roles = rows::roles_of(policy);
+    if roles <= role {
+        return false;
+    }
+    if roles <= other {
+        return false;
+    }
+    rows::may_take(
+        policy,
+        bytes::wide(role) as usize,
+        bytes::wide(other) as usize,
+    )
+}
+
+// Whether the policy file allows the mutation that stands at `at`: kind, role, operand. A deletion is always allowed.
+fn is_allowed(policy: &[u8], program: &[u8], at: usize) -> bool
+    requires { ⌜ Accepted (now policy) ⌝ }
+    ensures { λ r. ⌜ OneAllowedAt (now (policy .entry)) (now (program .entry)) at r ⌝ }
+{
+    let KindOf::Is(kind) = positions::kind_at(program, at) else {
+        return false;
+    };
+    let role = bytes::byte_at(program, positions::ahead(program, at, 1));
+    let operand = bytes::byte_at(program, positions::ahead(program, at, 2));
+    match kind {
+        Kind::AddMember => may_hold(policy, role, operand),
+        Kind::DeleteMember => true,
+        Kind::AddTaken => may_take(policy, role, operand),
+        Kind::DeleteTaken => true,
+    }
+}
+
+// Whether the policy file allows each of the n mutations that stand at `at`.
+pub fn all_allowed(policy: &[u8], program: &[u8], n: u8, at: usize) -> bool
+    requires { ⌜ Accepted (now policy) ⌝ }
+    ensures { λ r. ⌜ AllowedAt (now (policy .entry)) (now (program .entry)) n at r ⌝ }
+{
+    let mut left = n;
+    let mut here = at;
+    while 0 < left {
+        if !is_allowed(policy, program, here) {
+            return false;
+        }
+        here = positions::ahead(program, here, positions::MUTATION_BYTES);
+        left -= 1;
+    }
+    true
+}

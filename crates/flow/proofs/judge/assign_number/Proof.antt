@@ -1,8 +1,0 @@
-use Rattle.flow.proofs.JudgeLaws.{numbers}
-use borrow.Author.Needs.{needs}
-use Rattle.flow.proofs.judge.assign_number.Statement.{statement}
-use Rattle.flow.proofs.judge.assign_number.Tie as tie
-
-pub assign-number-spec : {M : Type 1} → statement M
-assign-number-spec =
-    tie.close (tie.spec (λ c κs. search needs) (λ c κs. search needs) (λ c κs. search needs) (λ c. search (needs, numbers)))
