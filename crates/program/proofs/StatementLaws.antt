@@ -20,7 +20,7 @@ use Rattle.program.specs.declared.codes.StatementOf.the-variants.{Is, No
 use Rattle.program.specs.Answer.{Reached, reached, stopped, placeLimit, told, endOf, readAssign, readUpdate, FindsSkip}
 use Rattle.program.specs.Codes.{statementOf}
 use Rattle.program.proofs.CodeLaws.{through}
-use Rattle.program.proofs.AnswerLaws.{tells, then-at, then-refused, then-last, then-end, then-same, pick-same, byte-there, byte-missing, many, many-next}
+use Rattle.program.proofs.AnswerLaws.{position-told, tells, then-at, then-refused, then-last, then-end, then-same, pick-same, byte-there, byte-missing, many, many-next}
 
 -- an assignment
 module _ (s : List ℕ) (v at a : ℕ) (e : told a ≡ endOf (readBelow s v at)) where
@@ -260,6 +260,11 @@ module _ (s : List ℕ) (d at : ℕ) where
     skip-passed P R v i r e l =
         let k = f h in
         many-next (readStmt s P R v d) i at (at + 1) r e l (stmt-skip s P R v d at (k .deep) (k .there) (Is Skip) (rw (k .code)) Skip refl refl)
+
+    -- a branch that is one
+    pub skip-branch : (P R v : ℕ) → length s < placeLimit → told (at + 1) ≡ endOf (readStmt s P R v d at)
+    unfolding FindsSkip statementOf
+    skip-branch P R v l = let k = f h in position-told (at + 1) (skip-low l) ∙ stmt-skip s P R v d at (k .deep) (k .there) (Is Skip) (rw (k .code)) Skip refl refl
 
 pub ruleset skips = (skip-not, skip-is, skip-low, skip-passed)
 

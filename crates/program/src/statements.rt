@@ -101,6 +101,17 @@ fn read_block(program: &[u8], principals: u8, roles: u8, vars: u8, depth: u8, at
     next as u64
 }
 
+// A branch of an if or a query. It is often a skip, which is passed over here as in a block.
+fn read_branch(program: &[u8], principals: u8, roles: u8, vars: u8, depth: u8, at: usize) -> u64
+    requires { ⌜ Within (now program) at ⌝ }
+    ensures { λ r. ⌜ told r ≡ endOf (readStmt (now (program .entry)) principals roles vars depth at) ⌝ }
+{
+    if is_skip(program, depth, at) {
+        return (at + 1) as u64;
+    }
+    read_stmt(&program[..], principals, roles, vars, depth, at)
+}
+
 // An expression, two statements.
 fn read_if(program: &[u8], principals: u8, roles: u8, vars: u8, depth: u8, at: usize) -> u64
     requires { ⌜ Within (now program) at ⌝ }
@@ -110,11 +121,11 @@ fn read_if(program: &[u8], principals: u8, roles: u8, vars: u8, depth: u8, at: u
     if answer::REFUSED <= test {
         return test;
     }
-    let taken = read_stmt(&program[..], principals, roles, vars, depth, test as usize);
+    let taken = read_branch(&program[..], principals, roles, vars, depth, test as usize);
     if answer::REFUSED <= taken {
         return taken;
     }
-    read_stmt(&program[..], principals, roles, vars, depth, taken as usize)
+    read_branch(&program[..], principals, roles, vars, depth, taken as usize)
 }
 
 // An expression, a statement.
@@ -138,11 +149,11 @@ fn read_query(program: &[u8], principals: u8, roles: u8, vars: u8, depth: u8, at
     if answer::REFUSED <= query {
         return query;
     }
-    let known = read_stmt(&program[..], principals, roles, vars, depth, query as usize);
+    let known = read_branch(&program[..], principals, roles, vars, depth, query as usize);
     if answer::REFUSED <= known {
         return known;
     }
-    read_stmt(&program[..], principals, roles, vars, depth, known as usize)
+    read_branch(&program[..], principals, roles, vars, depth, known as usize)
 }
 
 // n, n mutations; n is 1 to 16.

@@ -1,33 +1,35 @@
--- A statement calls a part with one less of depth, and a part calls statements with what it was given: twice the depth, and
--- one more in a part, falls at every call. A block's loop keeps that reading what is left comes to what reading all comes to,
--- and that a word can tell where it stands.
+-- A statement calls a part with one less of depth, and a part calls branches and statements with what it was given: three
+-- times the depth, one more in a branch and two in any other part, falls at every call. A block's loop keeps that reading what
+-- is left comes to what reading all comes to, and that a word can tell where it stands.
 use mathlib.Core.Path.{_≡_}
 use Rattle.model.specs.Program.{readMany, readStmt, blockAt}
 use Rattle.program.specs.Answer.{placeLimit, endOf}
-use Rattle.program.proofs.StatementLaws.{statements, blocks, skips, skip-there, ifs, whiles, queries, transactions}
-use native.Mathlib.Omega.{arith}
+use Rattle.program.proofs.StatementLaws.{statements, blocks, skips, skip-branch, ifs, whiles, queries, transactions}
 use borrow.Author.Needs.{needs}
-use Prim.Native.Nat.{ℕ, _<_, _+_, _*_}
+use Prim.Native.Nat.{ℕ, _+_, _*_, _<_}
 use borrow.Fn.Kinds.{In}
 use borrow.Fn.PlainCycle.{Measures, is, falls, and}
 use Rattle.program.proofs.statements.read_block.Reads as read-block
 use Rattle.program.proofs.statements.read_block.Kinds as read-block-kinds
-use Rattle.program.proofs.statements.+read_block+read_if+read_query+read_stmt+read_transaction+read_while.Lts-read_block as read-block-lts
+use Rattle.program.proofs.statements.+read_block+read_branch+read_if+read_query+read_stmt+read_transaction+read_while.Lts-read_block as read-block-lts
+use Rattle.program.proofs.statements.read_branch.Reads as read-branch
+use Rattle.program.proofs.statements.read_branch.Kinds as read-branch-kinds
+use Rattle.program.proofs.statements.+read_block+read_branch+read_if+read_query+read_stmt+read_transaction+read_while.Lts-read_branch as read-branch-lts
 use Rattle.program.proofs.statements.read_if.Reads as read-if
 use Rattle.program.proofs.statements.read_if.Kinds as read-if-kinds
-use Rattle.program.proofs.statements.+read_block+read_if+read_query+read_stmt+read_transaction+read_while.Lts-read_if as read-if-lts
+use Rattle.program.proofs.statements.+read_block+read_branch+read_if+read_query+read_stmt+read_transaction+read_while.Lts-read_if as read-if-lts
 use Rattle.program.proofs.statements.read_query.Reads as read-query
 use Rattle.program.proofs.statements.read_query.Kinds as read-query-kinds
-use Rattle.program.proofs.statements.+read_block+read_if+read_query+read_stmt+read_transaction+read_while.Lts-read_query as read-query-lts
+use Rattle.program.proofs.statements.+read_block+read_branch+read_if+read_query+read_stmt+read_transaction+read_while.Lts-read_query as read-query-lts
 use Rattle.program.proofs.statements.read_stmt.Reads as read-stmt
 use Rattle.program.proofs.statements.read_stmt.Kinds as read-stmt-kinds
-use Rattle.program.proofs.statements.+read_block+read_if+read_query+read_stmt+read_transaction+read_while.Lts-read_stmt as read-stmt-lts
+use Rattle.program.proofs.statements.+read_block+read_branch+read_if+read_query+read_stmt+read_transaction+read_while.Lts-read_stmt as read-stmt-lts
 use Rattle.program.proofs.statements.read_transaction.Reads as read-transaction
 use Rattle.program.proofs.statements.read_transaction.Kinds as read-transaction-kinds
-use Rattle.program.proofs.statements.+read_block+read_if+read_query+read_stmt+read_transaction+read_while.Lts-read_transaction as read-transaction-lts
+use Rattle.program.proofs.statements.+read_block+read_branch+read_if+read_query+read_stmt+read_transaction+read_while.Lts-read_transaction as read-transaction-lts
 use Rattle.program.proofs.statements.read_while.Reads as read-while
 use Rattle.program.proofs.statements.read_while.Kinds as read-while-kinds
-use Rattle.program.proofs.statements.+read_block+read_if+read_query+read_stmt+read_transaction+read_while.Lts-read_while as read-while-lts
+use Rattle.program.proofs.statements.+read_block+read_branch+read_if+read_query+read_stmt+read_transaction+read_while.Lts-read_while as read-while-lts
 use Rattle.program.proofs.answer.refused.Reads as refused-reads
 use Rattle.program.proofs.atoms.read_query.Reads as read-query-reads
 use Rattle.program.proofs.codes.statement_of.Reads as statement-of-reads
@@ -36,30 +38,33 @@ use Rattle.program.proofs.expressions.read_expr.Reads as read-expr-read
 use Rattle.program.proofs.statements.is_skip.Reads as is-skip-reads
 use Rattle.program.proofs.statements.read_assign.Reads as read-assign-reads
 use Rattle.program.proofs.statements.read_update.Reads as read-update-reads
-use Rattle.program.proofs.statements.+read_block+read_if+read_query+read_stmt+read_transaction+read_while.{
+use Rattle.program.proofs.statements.+read_block+read_branch+read_if+read_query+read_stmt+read_transaction+read_while.{
   statement,
 }
-use Rattle.program.proofs.statements.+read_block+read_if+read_query+read_stmt+read_transaction+read_while.Tie.{
+use Rattle.program.proofs.statements.+read_block+read_branch+read_if+read_query+read_stmt+read_transaction+read_while.Tie.{
   close,
 }
 
 abbrev μ-read-block : Measures 1 read-block-kinds.ps ℕ
-μ-read-block κs a = 2 * a .1 .1 .1 .1 .0 + 1
+μ-read-block κs a = 3 * a .1 .1 .1 .1 .0 + 2
+
+abbrev μ-read-branch : Measures 1 read-branch-kinds.ps ℕ
+μ-read-branch κs a = 3 * a .1 .1 .1 .1 .0 + 1
 
 abbrev μ-read-if : Measures 1 read-if-kinds.ps ℕ
-μ-read-if κs a = 2 * a .1 .1 .1 .1 .0 + 1
+μ-read-if κs a = 3 * a .1 .1 .1 .1 .0 + 2
 
 abbrev μ-read-query : Measures 1 read-query-kinds.ps ℕ
-μ-read-query κs a = 2 * a .1 .1 .1 .1 .0 + 1
+μ-read-query κs a = 3 * a .1 .1 .1 .1 .0 + 2
 
 abbrev μ-read-stmt : Measures 1 read-stmt-kinds.ps ℕ
-μ-read-stmt κs a = 2 * a .1 .1 .1 .1 .0
+μ-read-stmt κs a = 3 * a .1 .1 .1 .1 .0
 
 abbrev μ-read-transaction : Measures 1 read-transaction-kinds.ps ℕ
-μ-read-transaction κs a = 2 * a .1 .1 .1 .1 .0 + 1
+μ-read-transaction κs a = 3 * a .1 .1 .1 .1 .0 + 2
 
 abbrev μ-read-while : Measures 1 read-while-kinds.ps ℕ
-μ-read-while κs a = 2 * a .1 .1 .1 .1 .0 + 1
+μ-read-while κs a = 3 * a .1 .1 .1 .1 .0 + 2
 
 abbrev read-block-at : ℕ → In 1 read-block-kinds.ps
 read-block-at t =
@@ -68,6 +73,14 @@ read-block-at t =
 abbrev read-block-below : ℕ → In 1 read-block-kinds.ps
 read-block-below t =
     and 1 read-block-kinds.ps (falls 1 read-block-kinds.ps _<_ μ-read-block t) read-block.Pre
+
+abbrev read-branch-at : ℕ → In 1 read-branch-kinds.ps
+read-branch-at t =
+    and 1 read-branch-kinds.ps (is 1 read-branch-kinds.ps μ-read-branch t) read-branch.Pre
+
+abbrev read-branch-below : ℕ → In 1 read-branch-kinds.ps
+read-branch-below t =
+    and 1 read-branch-kinds.ps (falls 1 read-branch-kinds.ps _<_ μ-read-branch t) read-branch.Pre
 
 abbrev read-if-at : ℕ → In 1 read-if-kinds.ps
 read-if-at t = and 1 read-if-kinds.ps (is 1 read-if-kinds.ps μ-read-if t) read-if.Pre
@@ -115,17 +128,17 @@ read-while-below t =
     and 1 read-while-kinds.ps (falls 1 read-while-kinds.ps _<_ μ-read-while t) read-while.Pre
 
 abbrev read-block-Inv-loop : read-block-lts.InvT-loop
-read-block-Inv-loop s principals roles vars depth at left₀ next₀ left next =
-    (endOf (readMany (readStmt s principals roles vars depth) left next) ≡ endOf (blockAt s principals roles vars (readStmt s principals roles vars depth) at)) × (next < placeLimit)
+read-block-Inv-loop s principals roles vars depth at left₀ next₀ left next = (endOf (readMany (readStmt s principals roles vars depth) left next) ≡ endOf (blockAt s principals roles vars (readStmt s principals roles vars depth) at)) × (next < placeLimit)
 
 abbrev read-block-μ-loop : read-block-lts.MeasureT-loop
 read-block-μ-loop s principals roles vars depth at left₀ next₀ left next = left
 
-pub +read-block+read-if+read-query+read-stmt+read-transaction+read-while-spec :
+pub +read-block+read-branch+read-if+read-query+read-stmt+read-transaction+read-while-spec :
     {M : Type 1} → statement M
-+read-block+read-if+read-query+read-stmt+read-transaction+read-while-spec =
++read-block+read-branch+read-if+read-query+read-stmt+read-transaction+read-while-spec =
     close
     μ-read-block
+    μ-read-branch
     μ-read-if
     μ-read-query
     μ-read-stmt
@@ -159,11 +172,24 @@ pub +read-block+read-if+read-query+read-stmt+read-transaction+read-while-spec :
     (λ c. search needs)
     (λ c. (search (needs, blocks), search needs))
     (λ c. search (needs, blocks)))
+    (λ t. read-branch-lts.spec (
+      is-skip-reads.Asked,
+      is-skip-reads.Learnt,
+      read-stmt-below t,
+      read-stmt.Post,
+    )
+    (read-branch-at t)
+    read-branch.Post
+    (λ c κs. search needs)
+    (λ c. search needs)
+    (λ c. search (needs, skip-branch))
+    (λ c κs. search needs)
+    (λ c. search needs))
     (λ t. read-if-lts.spec (
       read-expr-reads.Asked,
       read-expr-reads.Learnt,
-      read-stmt-below t,
-      read-stmt.Post,
+      read-branch-below t,
+      read-branch.Post,
     )
     (read-if-at t)
     read-if.Post
@@ -176,8 +202,8 @@ pub +read-block+read-if+read-query+read-stmt+read-transaction+read-while-spec :
     (λ t. read-query-lts.spec (
       read-query-reads.Asked,
       read-query-reads.Learnt,
-      read-stmt-below t,
-      read-stmt.Post,
+      read-branch-below t,
+      read-branch.Post,
     )
     (read-query-at t)
     read-query.Post
