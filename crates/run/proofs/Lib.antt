@@ -1,6 +1,1 @@
-mod MemoryLaws
-mod Running
-mod TurnLaws
-mod OperatorLaws
-mod StopLaws
 mod RunLaws

@@ -28,12 +28,12 @@ use Rattle.flow.specs.declared.verdict.Verdict.{Verdict}
 use Rattle.flow.specs.declared.verdict.Verdict.the-variants.{Fine, Refused}
 use Rattle.flow.specs.Verdict.{verdictOf}
 use Rattle.run.specs.declared.run.Answer.{Answer}
-use Rattle.run.specs.declared.steps.Stop.{Stop}
-use Rattle.run.specs.declared.steps.Stop.the-variants.{Finished, Spent}
-use Rattle.run.specs.Memory.{Kept}
-use Rattle.run.specs.Steps.{Ready, endingOf, StopsAs, leftOf}
+use Rattle.machine.specs.declared.steps.Stop.{Stop}
+use Rattle.machine.specs.declared.steps.Stop.the-variants.{Finished, Spent}
+use Rattle.machine.specs.Memory.{Kept}
+use Rattle.machine.specs.Steps.{Ready, endingOf, StopsAs, leftOf}
 use Rattle.run.specs.Run.{Admitted, Rooms, Loadable, Loaded, Executed, Finishable}
-use Rattle.run.proofs.Running.{represents-kept, program-short}
+use Rattle.machine.proofs.Running.{represents-kept, program-short}
 
 -- refusals
 module _ (s p m : List ℕ) (fuel : ℕ) where

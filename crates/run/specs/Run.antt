@@ -14,8 +14,8 @@ use Rattle.model.specs.Machine.{answerOf}
 use Rattle.model.specs.Calls.{runAnswer}
 use Rattle.update.specs.Live.{atomWords}
 use Rattle.update.specs.Index.{indexWords, Tracked}
-use Rattle.run.specs.declared.steps.Stop.{Stop}
-use Rattle.run.specs.Steps.{leftOf, endingOf}
+use Rattle.machine.specs.declared.steps.Stop.{Stop}
+use Rattle.machine.specs.Steps.{leftOf, endingOf}
 
 -- a run that is not refused, and the number of its variables
 pub record Admitted (s p m : List ℕ) (vars fuel : ℕ) : Type 0 where
