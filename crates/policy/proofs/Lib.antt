@@ -1,6 +1,4 @@
 mod RowLaws
 mod CheckLaws
-mod TakesLaws
+pub mod TakesLaws
 mod PairLaws
-pub mod MeaningLaws
-mod ReachLaws

@@ -1,5 +1,5 @@
 // The public face: the calls of document 01 for C and Rust, declared in include/rx.h. Each takes every input.
-// Rattle callers have policy::check::policy_number, policy::meaning::meaning_of, flow::verdict::program_verdict,
+// Rattle callers have policy::check::policy_number, meaning::least::meaning_of, flow::verdict::program_verdict,
 // run::run::run and transaction_body below, of which these are the exports. What no export can say stands last: that two runs
 // leak nothing (`two_runs`).
 ghost use mathlib.Core.Path.{_≡_};
@@ -26,7 +26,7 @@ pub extern "C" fn rx_policy(policy: &[u8]) -> u32
 pub extern "C" fn rx_meaning(policy: &[u8], role: u32, bits: &mut u32) -> u32
     ensures { λ r. ⌜ answer r (now (bits .exit)) ≡ meaningOf (now (policy .entry)) role ⌝ }
 {
-    let meaning = policy::meaning::meaning_of(policy, role);
+    let meaning = meaning::least::meaning_of(policy, role);
     *bits = meaning.bits;
     meaning.number
 }

@@ -30,7 +30,7 @@ use Rattle.model.proofs.Reading.{query-fits}
 use Rattle.model.proofs.Standing.{query-parts}
 use Rattle.shared.specs.Words.{single}
 use Rattle.shared.proofs.SetLaws.{single-is}
-use Rattle.policy.proofs.MeaningLaws.{meanings-length}
+use Rattle.meaning.proofs.MeaningLaws.{meanings-length}
 use Rattle.update.specs.Live.{atomWords, Live, FixedLive, Watched}
 
 -- viewers and trusters, role by role

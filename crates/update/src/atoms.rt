@@ -7,7 +7,7 @@ ghost use Rattle.model.specs.Limits.{principalLimit, roleLimit};
 ghost use Rattle.model.specs.Sets.{within};
 ghost use Rattle.model.specs.Policy.{roles, Accepted};
 ghost use Rattle.update.specs.Live.{atomWords, Live, FixedLive, Watched};
-use policy::meaning;
+use meaning::least;
 use policy::rows;
 use shared::bytes;
 use shared::sets;
@@ -57,7 +57,7 @@ fn load_meanings(policy: &[u8], atoms: &mut [u32])
     ensures { λ _. ⌜ Live (now (policy .entry)) (now (atoms .exit)) ⌝ }
 {
     let roles = bytes::wide(rows::roles_of(policy)) as usize;
-    meaning::all_meanings(policy, &mut atoms[..roles]);
+    least::all_meanings(policy, &mut atoms[..roles]);
 }
 
 // The sets of all atoms under a policy.

@@ -1,7 +1,7 @@
-use Rattle.policy.proofs.MeaningLaws.{asked}
+use Rattle.meaning.proofs.MeaningLaws.{asked}
 use borrow.Author.Needs.{needs}
-use Rattle.policy.proofs.meaning.meaning_of.Statement.{statement}
-use Rattle.policy.proofs.meaning.meaning_of.Tie as tie
+use Rattle.meaning.proofs.least.meaning_of.Statement.{statement}
+use Rattle.meaning.proofs.least.meaning_of.Tie as tie
 
 pub meaning-of-spec : {M : Type 1} → statement M
 meaning-of-spec =

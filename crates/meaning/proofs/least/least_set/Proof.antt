@@ -1,13 +1,13 @@
 -- Whatever is left, the search stands; each turn it is done with one role more.
-use Rattle.policy.specs.Reach.{Reached}
+use Rattle.meaning.specs.Reach.{Reached}
 use Rattle.model.specs.Policy.{roles}
 use lib.Bits.{bitXor}
 use Prim.Native.Nat.{_^_, _-_}
 use mathlib.Core.Path.{_≡_}
-use Rattle.policy.proofs.ReachLaws.{set-laws}
+use Rattle.meaning.proofs.ReachLaws.{set-laws}
 use borrow.Author.Needs.{needs}
-use Rattle.policy.proofs.meaning.least_set.Statement.{statement}
-use Rattle.policy.proofs.meaning.least_set.Tie as tie
+use Rattle.meaning.proofs.least.least_set.Statement.{statement}
+use Rattle.meaning.proofs.least.least_set.Tie as tie
 
 abbrev Inv-loop : tie.InvT-loop
 Inv-loop policy role seen₀ done₀ bits₀ left₀ seen done bits left = Reached policy role seen done bits × (left ≡ bitXor seen done)

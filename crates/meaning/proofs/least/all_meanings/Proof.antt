@@ -1,7 +1,7 @@
-use Rattle.policy.proofs.ReachLaws.{none-put}
+use Rattle.meaning.proofs.ReachLaws.{none-put}
 use borrow.Author.Needs.{needs}
-use Rattle.policy.proofs.meaning.all_meanings.Statement.{statement}
-use Rattle.policy.proofs.meaning.all_meanings.Tie as tie
+use Rattle.meaning.proofs.least.all_meanings.Statement.{statement}
+use Rattle.meaning.proofs.least.all_meanings.Tie as tie
 
 pub all-meanings-spec : {M : Type 1} → statement M
 all-meanings-spec =

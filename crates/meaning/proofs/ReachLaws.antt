@@ -17,9 +17,9 @@ use Rattle.model.proofs.Accepted.{accepted-facts}
 use Rattle.model.proofs.Rows.{accepted-row}
 use Rattle.model.proofs.Sets.{in-not, in-none, has-or-l, has-or-r, or-has, or-grows, has-below, power-is, power-in, has-with-same, with-has, with-below, xor-has, xor-none, subset-le, same-sets}
 use Rattle.model.proofs.Least.{meaning-closed, meaning-least}
 use Rattle.policy.proofs.TakesLaws.{same-or}
-use Rattle.policy.proofs.MeaningLaws.{meanings-length}
-use Rattle.policy.specs.Reach.{Reached, Found, Searches}
+use Rattle.meaning.proofs.MeaningLaws.{meanings-length}
+use Rattle.meaning.specs.Reach.{Reached, Found, Searches}
 
 -- a search begins with the role itself
 pub begun : (s : List ℕ) (r one : ℕ) → r < roles s → one ≡ with 0 r → Reached s r one 0 0
