@@ -1,12 +1,12 @@
 -- What the code joins to a context's words is what the rules join to the context: an expression's label, the labels of queries.
-use mathlib.Core.Path.{_≡_, refl, sym, _∙_}
+use mathlib.Core.Path.{_≡_, refl, sym}
 use Prim.Native.Nat.{ℕ, _^_, _<_, _≤_}
 use mathlib.Core.List.{List, [], _∷_, _++_}
-use mathlib.Core.Bool.{Bool, true, false, cond, false≢true}
+use mathlib.Core.Bool.{Bool, true, false, cond}
 use lib.Bits.{or-comm}
 use lib.Dec.{eqb}
 use lib.ListN.{getD}
-use borrow.Author.Tests.{eqb-true, eqb-false, eq-eqb}
+use borrow.Author.Tests.{eqb-true, eqb-false}
 use Rattle.model.specs.Limits.{roleLimit}
 use Rattle.model.specs.Policy.{Side, reading, trust}
 use Rattle.model.specs.Syntax.{everyone, Atom, role, fixed, atomByte, Query, Expr, constant, variable, binary}
@@ -19,7 +19,7 @@ use Rattle.program.specs.Layout.{sideOf}
 use Rattle.gathered.specs.Words.{labelRole, exprRoles}
 use Rattle.gathered.specs.Labels.{LabelsBelow}
 use Rattle.context.specs.declared.around.Join.{Join}
-use Rattle.context.specs.Context.{Labels, aroundOf, meetsOf, labelsOf, withLabels, withNamed, FindsIdle, joinOf, meetOf, ContextIs}
+use Rattle.context.specs.Context.{Labels, meetsOf, labelsOf, withLabels, withNamed, joinOf, meetOf, ContextIs}
 
 -- a label's byte is that of its atom
 module _ (b : ℕ) where
@@ -106,18 +106,6 @@ module _ (n : ℕ) (l : Labels) (C : Side → List Atom) (is : ContextIs n l C) 
       joined = named-last (λ side. listLabel side qs) (listRoles qs) (λ side. joins-list side n few qs f);
       below = λ side. below-append n (is .below side) (below-list n side qs f);
     }
-
--- a transaction that writes nothing
-module _ (a : List ℕ) where
-  pub idle-not : FindsIdle (aroundOf a) false
-  unfolding FindsIdle
-  idle-not e = absurd (false≢true e)
-
-  pub idle-is : getD a 0 0 ≡ 1 → getD a 4 0 ≡ 0 → FindsIdle (aroundOf a) (eqb (getD a 5 0) 0)
-  unfolding FindsIdle
-  idle-is e f h = record { is-inside = eq-eqb _ 1 e; no-variables = f; no-roles = eqb-true _ 0 h }
-
-pub ruleset idles = (idle-not, idle-is)
 
 -- what an update is held to on a side
 module _ (a : List ℕ) (b : Bool) where

@@ -36,8 +36,8 @@ use Rattle.gathered.specs.Labels.{LabelsBelow}
 use Rattle.context.specs.declared.around.Join.{Join}
 use Rattle.context.specs.declared.judge.Written.{Written}
 use Rattle.context.specs.declared.judge.Written.the-variants.{Variable, Role}
-use Rattle.context.specs.Context.{Meets, Labels, Context, aroundWords, aroundOf, meetsOf, labelsOf, contextOf, joinOf, meetOf, ContextIs}
-use Rattle.context.specs.Judge.{sidesNumber, targetOf, limitOf, Names, TargetAt, OneBelow, allAbove, liesIn, narrowed, everything, MetOne, MetAll, Met, MetBoth, Held, updateNumber, AssignNumber}
+use Rattle.context.specs.Context.{Labels, aroundWords, meetsOf, labelsOf, contextOf, joinOf, meetOf, ContextIs}
+use Rattle.context.specs.Judge.{sidesNumber, targetOf, limitOf, Names, TargetAt, OneBelow, allAbove, liesIn, narrowed, everything, MetOne, MetAll, Met, MetBoth, Held, heldNumber, updateNumber, AssignNumber}
 use Rattle.context.proofs.ContextLaws.{label-byte, atom-below, label-below}
 
 and-false : (a b : Bool) → b ≡ false → a && b ≡ false
@@ -254,20 +254,32 @@ pub ruleset boths = (met-both, met-sides)
 -- the words of a transaction whose updates are held
 module _ (p t a : List ℕ) (l : length a ≡ aroundWords) where
   pub held-by : (m n : Join) → Met p t reading (getD a 4 0) (getD a 5 0) m → Met p t trust (getD a 4 0) (getD a 5 0) n
-      → Held p t a (getD a 0 0 ∷ getD a 1 0 ∷ getD a 2 0 ∷ getD a 3 0 ∷ getD a 4 0 ∷ getD a 5 0 ∷ m .roles ∷ m .watchers ∷ n .roles ∷ n .watchers ∷ [])
+      → Held p t a (getD a 0 0 ∷ getD a 1 0 ∷ getD a 2 0 ∷ getD a 3 0 ∷ getD a 4 0 ∷ getD a 5 0 ∷ m .roles ∷ m .watchers ∷ n .roles ∷ n .watchers ∷ getD a 10 0 ∷ getD a 11 0 ∷ getD a 12 0 ∷ [])
   held-by m n f g = record { long = refl; same = refl; right = λ _. met-sides p t (getD a 4 0) (getD a 5 0) m n f g }
 
-  pub held-none : getD a 5 0 ≡ 0 → Held p t a a
-  held-none e = record { long = l; same = refl; right = λ n. absurd (n e) }
+  pub held-same : getD a 5 0 ≡ 0 → Held p t a a
+  held-same e = record { long = l; same = refl; right = λ n. absurd (n e) }
 
-pub ruleset helds = (held-by, held-none)
+pub ruleset helds = (held-by, held-same)
+
+-- nothing against a context: it lies in both meets
+pub held-none : (l : Labels) (m n : Join) → heldNumber l m n ≡ 0 → (side : Side) → liesIn (joinOf side l) (meetOf side (record { reading = m; trust = n })) ≡ true
+held-none l m n e = go (liesIn (joinOf reading l) m) (liesIn (joinOf trust l) n) refl refl e
+  where
+    go : (a b : Bool) → liesIn (joinOf reading l) m ≡ a → liesIn (joinOf trust l) n ≡ b → sidesNumber a b ≡ 0 → (side : Side) → liesIn (joinOf side l) (meetOf side (record { reading = m; trust = n })) ≡ true
+    go true true f g e reading = f
+    go true true f g e trust = g
+    go true false f g e side = absurd (omega arith)
+    go false b f g e side = absurd (omega arith)
 
 pub assign-sides : (p t : List ℕ) (l : Labels) (x n : ℕ) (a b : Bool) → n ≡ sidesNumber a b
     → OneBelow p t (joinOf reading l) reading Variable x a → OneBelow p t (joinOf trust l) trust Variable x b → AssignNumber p t l x n
 unfolding OneBelow AssignNumber
 assign-sides p t l x n a b e f g s known C asked m = cc (e, f s l known C asked refl m, g s l known C asked refl m)
 
-pub update-sides : (a : List ℕ) (rs ts ws n : ℕ) (b d : Bool) (m k : Join) → n ≡ sidesNumber b d
-    → b ≡ liesIn (joinOf reading (labelsOf rs ts ws)) m → m ≡ meetOf (sideOf false) (meetsOf a)
-    → d ≡ liesIn (joinOf trust (labelsOf rs ts ws)) k → k ≡ meetOf (sideOf true) (meetsOf a) → n ≡ updateNumber (contextOf a rs ts ws)
-update-sides a rs ts ws n b d m k e f g h i = e ∙ rw (f, g, h, i)
+pub held-sides : (l : Labels) (m n : Join) (k : ℕ) (a b : Bool) → k ≡ sidesNumber a b → a ≡ liesIn (joinOf reading l) m → b ≡ liesIn (joinOf trust l) n → k ≡ heldNumber l m n
+held-sides l m n k a b e f g = e ∙ rw (f, g)
+
+pub update-sides : (a : List ℕ) (rs ts ws n : ℕ) (m k : Join) → m ≡ meetOf (sideOf false) (meetsOf a) → k ≡ meetOf (sideOf true) (meetsOf a)
+    → n ≡ heldNumber (labelsOf rs ts ws) m k → n ≡ updateNumber (contextOf a rs ts ws)
+update-sides a rs ts ws n m k f g e = e ∙ rw (f, g)

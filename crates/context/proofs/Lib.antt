@@ -1,3 +1,3 @@
 pub mod ContextLaws
-mod JudgeLaws
+pub mod JudgeLaws
 pub mod ListLaws

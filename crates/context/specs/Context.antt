@@ -1,8 +1,7 @@
 -- What surrounds a statement as the words that the code carries.
 use Prim.Native.Nat.{ℕ}
 use mathlib.Core.List.{List}
-use mathlib.Core.Path.{_≡_}
-use mathlib.Core.Bool.{Bool, true}
+use mathlib.Core.Bool.{Bool}
 use lib.Bits.{bitOr}
 use lib.Dec.{eqb}
 use lib.ListN.{getD}
@@ -11,8 +10,8 @@ use Rattle.model.specs.Syntax.{Atom}
 use Rattle.order.specs.Table.{Joins, JoinBelow}
 use Rattle.context.specs.declared.around.Join.{Join}
 
--- inside a transaction: where its `count` listed queries stand, the roles that they name, and all the variables and roles
--- that it writes
+-- inside a transaction: where its `count` listed queries stand, the roles that they name, all the variables and roles that it
+-- writes, and whether it is free; outside one the roles among the labels of all variables
 pub record Around : Type 0 where
   pub inside : Bool
   pub list : ℕ
@@ -20,6 +19,9 @@ pub record Around : Type 0 where
   pub named : ℕ
   pub variables : ℕ
   pub roles : ℕ
+  pub readers : ℕ
+  pub trusters : ℕ
+  pub free : Bool
 
 -- what every update of a transaction is held to on each side
 pub record Meets : Type 0 where
@@ -39,10 +41,20 @@ pub record Context : Type 0 where
 
 -- the words that are lent
 abbrev pub aroundWords : ℕ
-aroundWords = 10
+aroundWords = 13
 
 abbrev pub aroundOf : List ℕ → Around
-aroundOf a = record { inside = eqb (getD a 0 0) 1; list = getD a 1 0; count = getD a 2 0; named = getD a 3 0; variables = getD a 4 0; roles = getD a 5 0 }
+aroundOf a = record {
+  inside = eqb (getD a 0 0) 1;
+  list = getD a 1 0;
+  count = getD a 2 0;
+  named = getD a 3 0;
+  variables = getD a 4 0;
+  roles = getD a 5 0;
+  readers = getD a 10 0;
+  trusters = getD a 11 0;
+  free = eqb (getD a 12 0) 0;
+}
 
 abbrev pub meetsOf : List ℕ → Meets
 meetsOf a = record { reading = record { roles = getD a 6 0; watchers = getD a 7 0 }; trust = record { roles = getD a 8 0; watchers = getD a 9 0 } }
@@ -60,16 +72,6 @@ withLabels l r t = labelsOf (bitOr r (l .readers)) (bitOr t (l .trusters)) (l .a
 
 abbrev pub withNamed : Labels → ℕ → Labels
 withNamed l named = labelsOf (l .readers) (l .trusters) (bitOr named (l .asked))
-
--- that of a transaction that writes nothing
-pub record Idle (a : Around) : Type 0 where
-  pub is-inside : a .inside ≡ true
-  pub no-variables : a .variables ≡ 0
-  pub no-roles : a .roles ≡ 0
-
--- r is true only then
-unfoldable pub FindsIdle : Around → Bool → Type 0
-FindsIdle a r = r ≡ true → Idle a
 
 -- the join on a side
 abbrev pub joinOf : Side → Labels → Join

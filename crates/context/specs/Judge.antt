@@ -11,7 +11,6 @@ use Rattle.model.specs.Sets.{has, within}
 use Rattle.model.specs.Policy.{Side, reading, trust, roles, Accepted}
 use Rattle.model.specs.Syntax.{of, Atom, fixed, Query}
 use Rattle.model.specs.Program.{variables}
-use Rattle.model.specs.Fits.{AtomFits}
 use Rattle.model.specs.Order.{joinAtMost}
 use Rattle.model.specs.Flow.{label, eachIn}
 use Rattle.order.specs.Table.{watched, Knows}
@@ -115,9 +114,12 @@ pub record Held (p t a b : List ℕ) : Type 0 where
   pub same : aroundOf b ≡ aroundOf a
   pub right : (aroundOf a .roles ≡ 0 → ⊥) → MetBoth p t (aroundOf a .variables) (aroundOf a .roles) (meetsOf b)
 
--- the number of an update
+-- the number of a context that is held to the meet of each side, and of an update
+abbrev pub heldNumber : Labels → Join → Join → ℕ
+heldNumber l m n = sidesNumber (liesIn (joinOf reading l) m) (liesIn (joinOf trust l) n)
+
 abbrev pub updateNumber : Context → ℕ
-updateNumber c = sidesNumber (liesIn (joinOf reading (c .labels)) (c .meets .reading)) (liesIn (joinOf trust (c .labels)) (c .meets .trust))
+updateNumber c = heldNumber (c .labels) (c .meets .reading) (c .meets .trust)
 
 -- r is the number of an assignment to x
 unfoldable pub AssignNumber : List ℕ → List ℕ → Labels → ℕ → ℕ → Type 0

@@ -6,7 +6,8 @@
 ghost use mathlib.Core.Path.{_≡_};
 ghost use lib.ListN.{length};
 ghost use Rattle.program.specs.Layout.{sideOf};
-ghost use Rattle.context.specs.Context.{aroundWords, aroundOf, meetsOf, meetOf, FindsIdle};
+ghost use Rattle.context.specs.Context.{aroundWords, aroundOf, meetsOf, meetOf};
+use shared::number;
 
 // 1 inside a transaction, and 0 outside.
 pub const INSIDE: usize = 0;
@@ -29,7 +30,16 @@ pub const READING: usize = 6;
 
 pub const TRUST: usize = 8;
 
-pub const WORDS: usize = 10;
+// Outside a transaction: the roles among the labels of all variables, on each side.
+pub const READERS: usize = 10;
+
+pub const TRUSTERS: usize = 11;
+
+// The number that an update would have in the context of all that may ever flow in the transaction. Where it is `ACCEPTED` the
+// transaction is free: every test in it passes, whatever is learnt.
+pub const FREE: usize = 12;
+
+pub const WORDS: usize = 13;
 
 // A join of labels on one side: the roles in it, and the roles whose viewers (on the trust side, trusters) are in it.
 // Everyone adds nothing to a join.
@@ -84,16 +94,10 @@ pub fn meet_of(around: &[u64; WORDS], trust: bool) -> Join
     }
 }
 
-// Whether it is a transaction that writes nothing.
-pub fn is_idle(around: &[u64; WORDS]) -> bool
+// Whether it is free.
+pub fn is_free(around: &[u64; WORDS]) -> bool
     requires { ⌜ length (now around) ≡ aroundWords ⌝ }
-    ensures { λ r. ⌜ FindsIdle (aroundOf (now (around .entry))) r ⌝ }
+    ensures { λ r. ⌜ r ≡ aroundOf (now (around .entry)) .free ⌝ }
 {
-    if around[INSIDE] == 1 {
-        if around[VARIABLES] == 0 {
-            return around[ROLES] == 0;
-        }
-        return false;
-    }
-    false
+    around[FREE] == number::ACCEPTED as u64
 }

@@ -8,7 +8,7 @@ ghost use Rattle.program.specs.Layout.{sideOf};
 ghost use Rattle.order.specs.Table.{tableWords};
 ghost use Rattle.program.specs.Codes.{modelAtom};
 ghost use Rattle.context.specs.Context.{labelsOf, contextOf, aroundWords};
-ghost use Rattle.context.specs.Judge.{sidesNumber, TargetAt, OneBelow, liesIn, narrowed, everything, MetOne, MetAll, Met, Held, updateNumber, AssignNumber};
+ghost use Rattle.context.specs.Judge.{sidesNumber, TargetAt, OneBelow, liesIn, narrowed, everything, MetOne, MetAll, Met, Held, heldNumber, updateNumber, AssignNumber};
 use super::around;
 use super::around::Join;
 use order::table;
@@ -122,7 +122,7 @@ fn everything() -> Join
 }
 
 // What is at most all that is written: the labels of variables, the viewers (trusters) of roles.
-fn meet_of(program: &[u8], table: &[u64], trust: bool, variables: u64, roles: u64) -> Join
+pub fn meet_of(program: &[u8], table: &[u64], trust: bool, variables: u64, roles: u64) -> Join
     requires { ⌜ length (now table) ≡ tableWords ⌝ }
     ensures { λ r. ⌜ Met (now (program .entry)) (now (table .entry)) (sideOf trust) variables roles r ⌝ }
 {
@@ -164,6 +164,9 @@ pub fn held(
         reading.watchers,
         trust.roles,
         trust.watchers,
+        around[around::READERS],
+        around[around::TRUSTERS],
+        around[around::FREE],
     ]
 }
 
@@ -190,26 +193,39 @@ fn number_of(reading: bool, trust: bool) -> u32
     number::FLOW_READING
 }
 
+// A context that is held to the meet of each side.
+pub fn held_number(reading: Join, trust: Join, readers: u64, trusters: u64, asked: u64) -> u32
+    ensures { λ r. ⌜ r ≡ heldNumber (labelsOf readers trusters asked) reading trust ⌝ }
+{
+    let reads = lies_in(
+        Join {
+            roles: readers,
+            watchers: asked,
+        },
+        reading,
+    );
+    let trusts = lies_in(
+        Join {
+            roles: trusters,
+            watchers: asked,
+        },
+        trust,
+    );
+    number_of(reads, trusts)
+}
+
 // An update in a context that is joined with the labels of all listed queries.
 pub fn update_number(around: &[u64; around::WORDS], readers: u64, trusters: u64, asked: u64) -> u32
     requires { ⌜ length (now around) ≡ aroundWords ⌝ }
     ensures { λ r. ⌜ r ≡ updateNumber (contextOf (now (around .entry)) readers trusters asked) ⌝ }
 {
-    let reading = lies_in(
-        Join {
-            roles: readers,
-            watchers: asked,
-        },
+    held_number(
         around::meet_of(around, false),
-    );
-    let trust = lies_in(
-        Join {
-            roles: trusters,
-            watchers: asked,
-        },
         around::meet_of(around, true),
-    );
-    number_of(reading, trust)
+        readers,
+        trusters,
+        asked,
+    )
 }
 
 // An assignment to variable x, in a context that is joined with the expression's labels.

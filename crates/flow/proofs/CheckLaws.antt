@@ -20,11 +20,12 @@ use Rattle.model.specs.Mutation.{Mutation}
 use Rattle.model.specs.Syntax.{Atom, Query as ModelQuery, Expr, Stmt, skip, assign, empty, block, if, while, query as stmtQuery, update, transaction}
 use Rattle.model.specs.Program.{got, variables, readMany, readExpr, readQuery, readStmt, blockOf}
 use Rattle.model.specs.Fits.{Each, QueryFits, MutationFits, ExprFits, Fits}
-use Rattle.model.specs.Flow.{Around as Surroundings, outside, inside, exprLabel, queryLabel, listLabel, assigned, rolesOf, mutated, listedIn, allAllowed, eachIn, mayAssign, mayUpdate, flow}
+use Rattle.model.specs.Flow.{Around as Surroundings, outside, inside, exprLabel, queryLabel, listLabel, underQuery, assigned, rolesOf, mutated, listedIn, allAllowed, mayAssign, mayUpdate, flow}
 use Rattle.model.proofs.Accepted.{accepted-facts}
 use Rattle.model.proofs.Reading.{stmt-within}
+use Rattle.model.proofs.Fits.{listed-member}
 use Rattle.model.specs.Sets.{has}
-use Rattle.model.proofs.Sets.{has-zero, has-or-l, has-or-r, or-has, subset-le, has-with-same, with-has}
+use Rattle.model.proofs.Sets.{has-zero, in-none, has-or-l, has-or-r, or-has, has-with-same, with-has}
 use Rattle.model.proofs.Standing.{many-none, many-more, mutations-end, stmt-deep, stmt-there, stmt-known, skip-parts, assign-parts, block-parts, if-parts, while-parts, branch-parts, update-parts, transaction-parts}
 use Rattle.program.specs.declared.codes.Atom.{Atom as CodeAtom}
 use Rattle.program.specs.declared.codes.Statement.{Statement}
@@ -35,21 +36,24 @@ use Rattle.program.specs.Answer.{Reached, reached, stopped, placeLimit, refusal
 use Rattle.program.proofs.AnswerLaws.{position-told, refusal-told, refusal-kept}
 use Rattle.program.specs.Codes.{statementOf, statementByte}
 use Rattle.program.proofs.CodeLaws.{statement-byte, statement-none}
-use Rattle.order.specs.Table.{tableWords, queryOf, queryRoles, listRoles, Learnt}
+use Rattle.order.specs.Table.{tableWords, queryOf, Learnt}
 use Rattle.order.proofs.LearnLaws.{known-learnt}
 use Rattle.gathered.specs.Positions.{ahead, afterList}
 use Rattle.gathered.specs.Words.{exprRoles}
-use Rattle.gathered.specs.Labels.{LabelsBelow, labelsAdded, LabelsAt}
-use Rattle.gathered.specs.Writes.{writesAdded, WritesAt}
+use Rattle.gathered.specs.Labels.{LabelsBelow, labelsAdded, allBelow, LabelsAt}
+use Rattle.gathered.specs.Writes.{WritesAt}
 use Rattle.gathered.proofs.PositionLaws.{ahead-is, list-is}
+use Rattle.context.specs.declared.around.Join.{Join}
 use Rattle.context.specs.declared.lists.QueryOf.{QueryOf}
 use Rattle.context.specs.declared.lists.QueryOf.the-variants as query
 use Rattle.context.specs.Lists.{ListedAt, QueryAt, KnownAt, QueryRolesAt, ListRolesAt, AllowedAt}
-use Rattle.context.specs.Context.{Around, Meets, Labels, Context, aroundWords, aroundOf, meetsOf, labelsOf, contextOf, withLabels, withNamed, FindsIdle, joinOf, meetOf, ContextIs}
-use Rattle.context.specs.Judge.{SetBelow, sidesNumber, Asked, allAbove, bothAbove, liesIn, Met, MetBoth, Held, updateNumber, AssignNumber}
-use Rattle.flow.specs.Check.{checkedTo, numbered, numberedWord, Ready, Inside, AroundIs, MeetsAre, Stands, StmtAt, Writes, StmtFits, CheckedAt, CodedAt, AssignAt, UpdateAt, PairAt, BranchesAt, Knowing, BothAt, LearntAt, BranchesOf, bodyStart, EnteredAt, Enters}
+use Rattle.context.specs.Context.{Around, Meets, Labels, Context, aroundOf, meetsOf, labelsOf, contextOf, withLabels, withNamed, joinOf, meetOf, ContextIs}
+use Rattle.context.specs.Judge.{SetBelow, sidesNumber, Asked, allAbove, bothAbove, liesIn, Met, MetBoth, Held, heldNumber, updateNumber, AssignNumber}
+use Rattle.flow.specs.Check.{checkedTo, numbered, numberedWord, Ready, Inside, Outside, AroundIs, MeetsAre, mayFlow, Free, Stands, StmtAt, Subset, Writes, StmtFits, CheckedAt, CodedAt, AssignAt, UpdateAt, PairAt, BranchesAt, Knowing, BothAt, LearntAt, BranchesOf, bodyStart, EnteredAt, Enters}
 use Rattle.context.proofs.ContextLaws.{context-expr, context-query, context-list}
 use Rattle.context.proofs.ListLaws.{query-not, query-is}
+use Rattle.context.proofs.JudgeLaws.{met-sides, held-none}
+use Rattle.flow.proofs.FreeLaws.{all-fits, free-query, free-same, free-met, free-known, free-expr}
 
 -- a transaction around
 pub inside-is : (a : List ℕ) (i : Bool) → i ≡ aroundOf a .inside → i ≡ true → aroundOf a .inside ≡ true
@@ -150,22 +154,14 @@ module _ (P R vars : ℕ) where
   mutated-below (update at ms) f = roles-below ms f
   mutated-below (transaction at start end qs a) f = mutated-below a (f .1)
 
--- a union that is empty
-or-zero : (a b : ℕ) → bitOr a b ≡ 0 → (a ≡ 0) × (b ≡ 0)
-or-zero a b e =
-    let l : a ≤ bitOr a b = subset-le a (bitOr a b) (λ i h. has-or-l a b i h) in
-    let m : b ≤ bitOr a b = subset-le b (bitOr a b) (λ i h. has-or-r a b i h) in
-    (omega arith, omega arith)
-
--- where nothing is assigned or mutated, nothing is in the parts
+-- what the parts write
 writes-parts : (around : Surroundings) (x a b : Stmt) → assigned x ≡ bitOr (assigned a) (assigned b) → mutated x ≡ bitOr (mutated a) (mutated b)
     → Writes around x → Writes around a × Writes around b
 unfolding Writes
 writes-parts outside x a b e f w = (tt, tt)
-writes-parts (inside listed xs rs) x a b e f w = (
-  (λ z. or-zero (assigned a) (assigned b) (sym e ∙ w .0 z) .0, λ z. or-zero (mutated a) (mutated b) (sym f ∙ w .1 z) .0),
-  (λ z. or-zero (assigned a) (assigned b) (sym e ∙ w .0 z) .1, λ z. or-zero (mutated a) (mutated b) (sym f ∙ w .1 z) .1),
-)
+writes-parts (inside listed xs rs) x a b e f w =
+    let (u, v) : Subset (bitOr (assigned a) (assigned b)) xs × Subset (bitOr (mutated a) (mutated b)) rs = rw (e, f) at w in
+    ((λ i m. u i (has-or-l (assigned a) (assigned b) i m), λ i m. v i (has-or-l (mutated a) (mutated b) i m)), (λ i m. u i (has-or-r (assigned a) (assigned b) i m), λ i m. v i (has-or-r (mutated a) (mutated b) i m)))
 
 writes-if : (around : Surroundings) (e : Expr) (a b : Stmt) → Writes around (if e a b) → Writes around a × Writes around b
 unfolding assigned mutated
@@ -182,16 +178,12 @@ writes-while (inside listed xs rs) e a w = w
 
 writes-body : (listed : List ModelQuery) (x : Stmt) → Writes (inside listed (assigned x) (mutated x)) x
 unfolding Writes
-writes-body listed x = (λ z. z, λ z. z)
+writes-body listed x = (λ i m. m, λ i m. m)
 
 -- an update mutates a role, and so does the transaction around it
-roles-some : (m : Mutation) (ms : List Mutation) → rolesOf (m ∷ ms) ≡ 0 → ⊥
-unfolding rolesOf
-roles-some m ms e = true≢false (sym (has-with-same (rolesOf ms) (m .role)) ∙ ap (λ (n : ℕ). has n (m .role)) e ∙ has-zero (m .role))
-
 writes-update : (listed : List ModelQuery) (xs rs at : ℕ) (m : Mutation) (ms : List Mutation) → Writes (inside listed xs rs) (update at (m ∷ ms)) → rs ≡ 0 → ⊥
-unfolding Writes mutated
-writes-update listed xs rs at m ms w z = roles-some m ms (w .1 z)
+unfolding Writes mutated rolesOf
+writes-update listed xs rs at m ms w z = in-none (m .role) (rw z at (w .1 (m .role) (has-with-same (rolesOf ms) (m .role))))
 
 block-fits : (s p : List ℕ) (around : Surroundings) (a : Stmt) (rest : List Stmt) → StmtFits s p around (blockOf (a ∷ rest)) → StmtFits s p around a × StmtFits s p around (blockOf rest)
 unfolding blockOf assigned mutated
@@ -199,36 +191,10 @@ block-fits s p around a rest f =
     let (l, m) = writes-parts around (block a (blockOf rest)) a (blockOf rest) refl refl (f .1) in
     ((f .0 .0, l), (f .0 .1, m))
 
--- where nothing is written, what is known does not matter
-module _ (s p : List ℕ) (listed : List ModelQuery) where
-  free : (k : List ModelQuery) (C : Side → List Atom) (side : Side) → mayUpdate s p k C listed 0 0 side ≡ true
-  unfolding mayUpdate eachIn
-  free k C side = refl
-
-  orElse-same : {v v′ w w′ : Verdict} → v ≡ v′ → w ≡ w′ → orElse v w ≡ orElse v′ w′
-  orElse-same e f = rw (e, f)
-
-  unasked : (x : Stmt) → assigned x ≡ 0 → (k k′ : List ModelQuery) (C : Side → List Atom) → flow s p (inside listed 0 0) k C x ≡ flow s p (inside listed 0 0) k′ C x
-  unfolding assigned flow
-  unasked skip e k k′ C = refl
-  unasked (assign at x v) e k k′ C = absurd (true≢false (sym (has-with-same 0 x) ∙ ap (λ (n : ℕ). has n x) e ∙ has-zero x))
-  unasked empty e k k′ C = refl
-  unasked (block a b) e k k′ C = let (l, m) = or-zero (assigned a) (assigned b) e in orElse-same (unasked a l k k′ C) (unasked b m k k′ C)
-  unasked (if v a b) e k k′ C =
-      let (l, m) = or-zero (assigned a) (assigned b) e in
-      orElse-same (unasked a l k k′ (λ side. exprLabel p side v ++ C side)) (unasked b m k k′ (λ side. exprLabel p side v ++ C side))
-  unasked (while v a) e k k′ C = unasked a e k k′ (λ side. exprLabel p side v ++ C side)
-  unasked (stmtQuery at q a b) e k k′ C =
-      let (l, m) = or-zero (assigned a) (assigned b) e in
-      ap (require (listedIn q listed) 15 at)
-      (orElse-same (unasked a l (q ∷ k) (q ∷ k′) (λ side. queryLabel side q ++ C side)) (unasked b m k k′ (λ side. queryLabel side q ++ C side)))
-  unasked (update at ms) e k k′ C = rw (free k C reading, free k C trust, free k′ C reading, free k′ C trust)
-  unasked (transaction at start end qs a) e k k′ C = refl
-
 -- what stands for what, kept up
 module _ {s p t : List ℕ} {c : Context} {around : Surroundings} {known : List ModelQuery} {C : Side → List Atom} (st : Stands s p t c around known C) where
-  stands-asked : Asked s p t (c .labels) known C
-  stands-asked = record { is-accepted = st .is-accepted; labels = st .labels; knows = st .knows; context = st .context }
+  stands-asked : (l : Labels) {K : Side → List Atom} → ContextIs (roles s) l K → Asked s p t l known K
+  stands-asked l h = record { is-accepted = st .is-accepted; labels = st .labels; knows = st .knows; context = h }
 
   roles-few : roles s ≤ roleLimit
   roles-few = accepted-facts s (st .is-accepted) .roles-fit
@@ -241,8 +207,9 @@ module _ {s p t : List ℕ} {c : Context} {around : Surroundings} {known : List 
   low-end d at h = omega (arith, st .short, stmt-within p (principals s) (roles s) (variables p) d at h .1)
 
   -- under other labels
-  stands-labels : (l : Labels) {K : Side → List Atom} → ContextIs (roles s) l K → Stands s p t (record { around = c .around; meets = c .meets; labels = l }) around known K
-  stands-labels l h = record {
+  stands-labels : (l : Labels) {K : Side → List Atom} → ContextIs (roles s) l K → (Free s p around known C → Free s p around known K)
+      → Stands s p t (record { around = c .around; meets = c .meets; labels = l }) around known K
+  stands-labels l h f = record {
     is-accepted = st .is-accepted;
     short = st .short;
     few = st .few;
@@ -250,6 +217,7 @@ module _ {s p t : List ℕ} {c : Context} {around : Surroundings} {known : List 
     knows = st .knows;
     surrounded = st .surrounded;
     met = st .met;
+    free = λ z. f (st .free z);
     context = h;
   }
 
@@ -269,11 +237,11 @@ record Within (p : List ℕ) (R vars : ℕ) (a : Around) (around : Surroundings)
   pub parts : Inside p R vars a listed xs rs
 
 within-one : (p : List ℕ) (R vars : ℕ) (a : Around) (around : Surroundings) → AroundIs p R vars a around → a .inside ≡ true → Within p R vars a around
-within-one p R vars a outside h e = absurd (true≢false (sym e ∙ h))
+within-one p R vars a outside h e = absurd (true≢false (sym e ∙ h .flag))
 within-one p R vars a (inside listed xs rs) h e = record { listed = listed; xs = xs; rs = rs; is = refl; parts = h }
 
-within-none : (p : List ℕ) (R vars : ℕ) (a : Around) (around : Surroundings) → AroundIs p R vars a around → a .inside ≡ false → around ≡ outside
-within-none p R vars a outside h e = refl
+within-none : (p : List ℕ) (R vars : ℕ) (a : Around) (around : Surroundings) → AroundIs p R vars a around → a .inside ≡ false → (around ≡ outside) × Outside p vars a
+within-none p R vars a outside h e = (refl, h)
 within-none p R vars a (inside listed xs rs) h e = absurd (true≢false (sym (h .flag) ∙ e))
 
 -- the two words that an expression's labels were added to
@@ -293,7 +261,7 @@ assign-checked p t rs ts ws at q x m l next n r e₁ e₂ e₃ f h j s c d ce co
     let le = labels-are st m (rs ∷ ts ∷ []) l next (u .value) end f (rw me (u .value-read)) in
     let w = rw (u .is) at (fit .0) in
     let b = added-context p (u .value) (rs ∷ ts ∷ []) l (le .1) (roles s) ws (λ side. exprLabel p side (u .value) ++ C side) (rw ce at (under-expr st (u .value) (w .1))) in
-    let v = h s known (λ side. exprLabel p side (u .value) ++ C side) (stands-asked (stands-labels st _ b)) (rw xe (u .fits)) in
+    let v = h s known (λ side. exprLabel p side (u .value) ++ C side) (stands-asked st _ b) (rw xe (u .fits)) in
     let told-so : told r ≡ numbered n at end = numbered-told n at end r (rw (← (le .0)) j) (low-start st d at i) (low-end st d at i) in
     rw (u .is, told-so, v, ← xe)
     (sides-checked (mayAssign s p known C x (u .value) reading) (mayAssign s p known C x (u .value) trust) at end)
@@ -315,7 +283,7 @@ module _ (s p : List ℕ) (c : Context) (at : ℕ) where
   unfolding UpdateAt CheckedAt flow checkedTo
   update-outside i r f e g t d code around known C x end st h fit =
       let u = update-parts p (principals s) (roles s) (variables p) d at h code in
-      rw (u .is, within-none p (roles s) (variables p) (c .around) around (st .surrounded) (sym f ∙ e)) (stopped-told r 15 at g (omega arith) (low-start st d at h))
+      rw (u .is, within-none p (roles s) (variables p) (c .around) around (st .surrounded) (sym f ∙ e) .0) (stopped-told r 15 at g (omega arith) (low-start st d at h))
 
   module _ (q n m : ℕ) (b : Bool) (i : q ≡ ahead p at 1) (j : n ≡ byte p q) (k : m ≡ ahead p at 2) (f : AllowedAt s p n m b) where
     allowed-is : (d : ℕ) (x : Stmt) (end : ℕ) → Accepted s → (h : StmtAt s p d at x end) → (code : byte p at ≡ 6) → b ≡ allAllowed s (update-parts p (principals s) (roles s) (variables p) d at h code .mutations)
@@ -351,36 +319,43 @@ module _ (s p : List ℕ) (c : Context) (at : ℕ) where
       let v₁ = many-more _ (byte p (at + 1)) (at + 2) (u .mutations-read) (u .some) in
       let writes : Writes (inside (w .listed) (w .xs) (w .rs)) (update at (v₁ .head ∷ v₁ .tail)) = rw (w .is, u .is, v₁ .is) at (fit .1) in
       let held : MetBoth p t (w .xs) (w .rs) (c .meets) = subst (MeetsAre p t (c .meets)) (w .is) (st .met) (writes-update (w .listed) (w .xs) (w .rs) at (v₁ .head) (v₁ .tail) writes) in
-      let side : (side : Side) → liesIn (joinOf side l) (meetOf side (c .meets)) ≡ bothAbove s p known K side (w .xs) (w .rs) = λ side. held side s l known K (stands-asked (stands-labels st l cl)) (w .parts .variables-below) (w .parts .roles-below) in
+      let side : (side : Side) → liesIn (joinOf side l) (meetOf side (c .meets)) ≡ bothAbove s p known K side (w .xs) (w .rs) = λ side. held side s l known K (stands-asked st l cl) (w .parts .variables-below) (w .parts .roles-below) in
       let n = h ∙ sides-same (side reading) (side trust) in
       let told-so : told r ≡ numbered y at end = numbered-told y at end r (rw (← oo) re) (low-start st d at i) (low-end st d at i) in
       rw (u .is, w .is, v, told-so, n) (sides-checked (mayUpdate s p known C (w .listed) (w .xs) (w .rs) reading) (mayUpdate s p known C (w .listed) (w .xs) (w .rs) trust) at end)
 
 -- entering a transaction
-pub entered-is : (p : List ℕ) (d at q m n count list end₀ named : ℕ) (w : List ℕ) → q ≡ ahead p at 1 → n ≡ byte p q → count ≡ n → list ≡ ahead p at 2
-    → m ≡ afterList p at 2 → WritesAt p d m (0 ∷ 0 ∷ []) w end₀ → ListRolesAt p n list named
-    → EnteredAt p d at (1 ∷ list ∷ count ∷ named ∷ getD w 0 0 ∷ getD w 1 0 ∷ 0 ∷ 0 ∷ 0 ∷ 0 ∷ [])
-unfolding EnteredAt WritesAt ListRolesAt
-entered-is p d at q m n count list end₀ named w e₁ e₂ e₀ e₃ e₄ f g P R vars listed body end few few′ h i j k fit =
-    let ne : n ≡ byte p (at + 1) = e₂ ∙ ap (byte p) (e₁ ∙ ahead-is p at 1 (omega arith)) in
-    let le : list ≡ at + 2 = e₃ ∙ ahead-is p at 2 (omega arith) in
-    let me : m ≡ bodyStart p at = e₄ ∙ list-is p at 2 h in
-    let x = f P R vars (few, few′) body end (rw me k) .1 in
-    let y : readMany (readQuery p R) n list ≡ got listed (bodyStart p at) = rw (ne, le) i in
-    record {
-      flag = refl;
-      end = bodyStart p at;
-      listed-read = rw e₀ y;
-      listed-below = j;
-      named-are = g R listed (bodyStart p at) y;
-      variables-are = ap (λ (l : List ℕ). getD l 0 0) x ∙ or-zero-r (assigned body);
-      variables-below = assigned-below P R vars body fit;
-      roles-are = ap (λ (l : List ℕ). getD l 1 0) x ∙ or-zero-r (mutated body);
-      roles-below = mutated-below P R vars body fit;
-    }
+module _ (p : List ℕ) (d at q m n count list end₀ named : ℕ) (w : List ℕ) (e₁ : q ≡ ahead p at 1) (e₂ : n ≡ byte p q) (e₀ : count ≡ n) (e₃ : list ≡ ahead p at 2)
+    (e₄ : m ≡ afterList p at 2) (f : WritesAt p d m (0 ∷ 0 ∷ []) w end₀) (g : ListRolesAt p n list named) where
+  entered-is : (rest : List ℕ) → EnteredAt p d at (1 ∷ list ∷ count ∷ named ∷ getD w 0 0 ∷ getD w 1 0 ∷ rest)
+  unfolding EnteredAt WritesAt ListRolesAt
+  entered-is rest P R vars listed body end few few′ h i j k fit =
+      let ne : n ≡ byte p (at + 1) = e₂ ∙ ap (byte p) (e₁ ∙ ahead-is p at 1 (omega arith)) in
+      let le : list ≡ at + 2 = e₃ ∙ ahead-is p at 2 (omega arith) in
+      let me : m ≡ bodyStart p at = e₄ ∙ list-is p at 2 h in
+      let x = f P R vars (few, few′) body end (rw me k) .1 in
+      let y : readMany (readQuery p R) n list ≡ got listed (bodyStart p at) = rw (ne, le) i in
+      record {
+        flag = refl;
+        end = bodyStart p at;
+        listed-read = rw e₀ y;
+        listed-below = j;
+        named-are = g R listed (bodyStart p at) y;
+        variables-are = ap (λ (l : List ℕ). getD l 0 0) x ∙ or-zero-r (assigned body);
+        variables-below = assigned-below P R vars body fit;
+        roles-are = ap (λ (l : List ℕ). getD l 1 0) x ∙ or-zero-r (mutated body);
+        roles-below = mutated-below P R vars body fit;
+      }
 
-pub enters : (p t : List ℕ) (d at : ℕ) (a r : List ℕ) → EnteredAt p d at a → Held p t a r → Enters p t d at r
-enters p t d at a r f h = record { words = a; entered = f; held = h }
+  pub enters : (t a : List ℕ) (rs ts ws : ℕ) (u v : Join) (z : ℕ) → Met p t reading (getD w 0 0) (getD w 1 0) u → Met p t trust (getD w 0 0) (getD w 1 0) v
+      → z ≡ heldNumber (labelsOf (bitOr (getD a 10 0) rs) (bitOr (getD a 11 0) ts) (bitOr named ws)) u v
+      → Enters p t (aroundOf a) (labelsOf rs ts ws) d at (1 ∷ list ∷ count ∷ named ∷ getD w 0 0 ∷ getD w 1 0 ∷ u .roles ∷ u .watchers ∷ v .roles ∷ v .watchers ∷ 0 ∷ 0 ∷ z ∷ [])
+  enters t a rs ts ws u v z h k e = record {
+    long = refl;
+    entered = entered-is _;
+    held = met-sides p t (getD w 0 0) (getD w 1 0) u v h k;
+    free = λ i. held-none _ u v (sym e ∙ eqb-true z 0 i);
+  }
 
 -- two statements
 module _ (s p t : List ℕ) (c : Context) (d at : ℕ) (o : ℕ) (f : CheckedAt s p t c d at o) where
@@ -405,8 +380,8 @@ ready-table s t a k ready l = record { is-accepted = ready .is-accepted; long = 
 pub ready-held : (s p t a b : List ℕ) → Ready s t a → Held p t a b → Ready s t b
 ready-held s p t a b ready h = record { is-accepted = ready .is-accepted; long = ready .long; wide = h .long }
 
-pub ready-entered : (s p t a b : List ℕ) (d at : ℕ) → Ready s t a → Enters p t d at b → Ready s t b
-ready-entered s p t a b d at ready h = record { is-accepted = ready .is-accepted; long = ready .long; wide = h .held .long }
+pub ready-entered : (s p t a b : List ℕ) (l : Labels) (d at : ℕ) → Ready s t a → Enters p t (aroundOf a) l d at b → Ready s t b
+ready-entered s p t a b l d at ready h = record { is-accepted = ready .is-accepted; long = ready .long; wide = h .long }
 
 -- the branches of a query: the first by the table k and the words b, which also know it, the second by the table t
 module _ (s p k t : List ℕ) (b c : Context) (d at : ℕ) (o : ℕ) (f : CheckedAt s p k b d at o) where
@@ -441,6 +416,7 @@ module _ (s p k t : List ℕ) (q : ModelQuery) (l : Learnt (roles s) t k q) wher
     knows = l s known (st .is-accepted) refl fits (st .knows);
     surrounded = rw e (st .surrounded);
     met = m around (st .surrounded) (st .met);
+    free = λ z. free-known s p known C around q (st .free (ap (λ (a : Around). a .free) (sym e) ∙ z));
     context = rw f (st .context);
   }
 
@@ -455,17 +431,15 @@ held-both s p k t a b rs ts ws d at r h f q l = f q (knowing-learnt s p k t q l 
 knowing-same : (s p t : List ℕ) (q : ModelQuery) → Learnt (roles s) t t q → (c : Context) → Knowing s p t t c c q
 knowing-same s p t q l c = knowing-by s p t t q l c c refl refl (λ around _ h. h)
 
--- a query in a transaction that writes nothing
-asked-idle : (s p t : List ℕ) (c : Context) (d at asked : ℕ) (b : Bool) (r : ℕ) → FindsIdle (c .around) b → b ≡ true → PairAt s p t c d at r → BranchesOf s p t c d at asked r
-unfolding FindsIdle PairAt BranchesOf BranchesAt Writes
-asked-idle s p t c d at asked b r f z g q end i around known C x y mid after below st h fit h′ fit′ =
-    let idle = f z in
-    let w = within-one p (roles s) (variables p) (c .around) around (st .surrounded) (idle .is-inside) in
-    let xs : w .xs ≡ 0 = sym (w .parts .variables-are) ∙ idle .no-variables in
-    let rs : w .rs ≡ 0 = sym (w .parts .roles-are) ∙ idle .no-roles in
-    let is : around ≡ inside (w .listed) 0 0 = w .is ∙ rw (xs, rs) in
-    let none : assigned x ≡ 0 = subst (λ (a : Surroundings). Writes a x) is (fit .1) .0 refl in
-    let same : flow s p around known C x ≡ flow s p around (q ∷ known) C x = rw is (unasked s p (w .listed) x none known (q ∷ known) C) in
+-- a query in a free transaction
+asked-free : (s p t : List ℕ) (c : Context) (d at asked : ℕ) (r : ℕ) → c .around .inside ≡ true → c .around .free ≡ true → PairAt s p t c d at r → BranchesOf s p t c d at asked r
+unfolding PairAt BranchesOf BranchesAt Writes
+asked-free s p t c d at asked r i z g q end _ around known C x y mid after below st h fit h′ fit′ =
+    let w = within-one p (roles s) (variables p) (c .around) around (st .surrounded) i in
+    let f : Free s p (inside (w .listed) (w .xs) (w .rs)) known C = rw (w .is) at (st .free z) in
+    let f′ : Free s p (inside (w .listed) (w .xs) (w .rs)) (q ∷ known) C = free-known s p known C (inside (w .listed) (w .xs) (w .rs)) q f in
+    let writes : Writes (inside (w .listed) (w .xs) (w .rs)) x = rw (w .is) at (fit .1) in
+    let same : flow s p around known C x ≡ flow s p around (q ∷ known) C x = rw (w .is) (free-same s p (w .listed) (w .xs) (w .rs) (principals s) (roles s) (roles-few st) (w .parts .listed-below) x (fit .0) (writes .0) known (q ∷ known) C f f′) in
     g around known C x y mid after st h fit h′ fit′ ∙ ap (λ (v : Verdict). checkedTo (orElse v (flow s p around known C y)) after) same
 
 -- a query that the table knows
@@ -579,7 +553,7 @@ module _ (s p t : List ℕ) (c : Context) (d at : ℕ) where
         let b = added-context p (u .test) (c .labels .readers ∷ c .labels .trusters ∷ []) l (le .1) (roles s) (c .labels .asked) (λ side. exprLabel p side (u .test) ++ C side) (under-expr st (u .test) (w .0)) in
         rw (u .is)
         (h around known (λ side. exprLabel p side (u .test) ++ C side) (u .left) (u .right) (u .mid) end
-        (stands-labels st _ b) (rw (le .0) (u .left-read)) (w .1, wl) (u .right-read) (w .2, wr))
+        (stands-labels st _ b (free-expr s p known C around (u .test) (w .0))) (rw (le .0) (u .left-read)) (w .1, wl) (u .right-read) (w .2, wr))
 
     pub while-checked : CheckedAt s p t labelled (d - 1) next r → CodedAt While s p t c d at r
     unfolding CodedAt CheckedAt flow
@@ -592,14 +566,14 @@ module _ (s p t : List ℕ) (c : Context) (d at : ℕ) where
         let b = added-context p (u .test) (c .labels .readers ∷ c .labels .trusters ∷ []) l (le .1) (roles s) (c .labels .asked) (λ side. exprLabel p side (u .test) ++ C side) (under-expr st (u .test) (w .0)) in
         rw (u .is)
         (h around known (λ side. exprLabel p side (u .test) ++ C side) (u .body) end
-        (stands-labels st _ b) (rw (le .0) (u .body-read)) (w .1, wb))
+        (stands-labels st _ b (free-expr s p known C around (u .test) (w .0))) (rw (le .0) (u .body-read)) (w .1, wb))
 
   -- a query
   pub query-outside : (i : Bool) (r : ℕ) → i ≡ c .around .inside → i ≡ false → r ≡ refusal 15 at → CodedAt Query s p t c d at r
   unfolding CodedAt CheckedAt flow checkedTo
   query-outside i r f e re code around known C x end st h fit =
       let u = branch-parts p (principals s) (roles s) (variables p) d at h code in
-      rw (u .is, within-none p (roles s) (variables p) (c .around) around (st .surrounded) (sym f ∙ e)) (stopped-told r 15 at re (omega arith) (low-start st d at h))
+      rw (u .is, within-none p (roles s) (variables p) (c .around) around (st .surrounded) (sym f ∙ e) .0) (stopped-told r 15 at re (omega arith) (low-start st d at h))
 
   module _ (i : Bool) (is : i ≡ c .around .inside) (e : i ≡ true) (m n place : ℕ) (l : Bool) (w : m ≡ ahead p at 1) (ne : n ≡ c .around .count) (pe : place ≡ c .around .list) (listed : ListedAt p n place m l) where
     listed-is : (asked : ModelQuery) (qs : List ModelQuery) (end after : ℕ) → at + 1 + 2 ≤ length p → readMany (readQuery p (roles s)) (c .around .count) (c .around .list) ≡ got qs end → readQuery p (roles s) (at + 1) ≡ got asked after → l ≡ listedIn asked qs
@@ -632,17 +606,18 @@ module _ (s p t : List ℕ) (c : Context) (d at : ℕ) where
           let me : m ≡ at + 1 = w ∙ ahead-is p at 1 (omega (arith, u .asked-parts .inside)) in
           let asked : readQuery p (roles s) m ≡ got (u .asked) (at + 3) = rw me (u .asked-read) in
           let cq : ContextIs (roles s) (withNamed (c .labels) named) (λ side. queryLabel side (u .asked) ++ C side) = rw (f (roles s) (u .asked) (at + 3) asked) (context-query (roles s) (c .labels) C (st .context) (roles-few st) (u .asked) (fits .0)) in
+          let member = listed-member (roles s) (roles-few st) (u .asked) (v .listed) (fits .0) (v .parts .listed-below) (sym b ∙ le) in
           let se : start ≡ at + 3 = es ∙ ahead-is p at 3 (omega (arith, u .asked-parts .inside)) in
           rw (u .is, v .is, sym b ∙ le)
           (rw (v .is) at (g (u .asked) (at + 3) asked around known (λ side. queryLabel side (u .asked) ++ C side) (u .left) (u .right) (u .mid) end
-          (fits .0) (stands-labels st _ cq) (rw se (u .left-read)) (fits .1, wl) (u .right-read) (fits .2, wr)))
+          (fits .0) (stands-labels st _ cq (λ f. subst (λ a. Free s p a known (underQuery (u .asked) C)) (sym (v .is)) (free-query s p (v .listed) (v .xs) (v .rs) known C (subst (λ a. Free s p a known C) (v .is) f) (u .asked) member))) (rw se (u .left-read)) (fits .1, wl) (u .right-read) (fits .2, wr)))
 
       pub query-listed : (r : ℕ) → BranchesOf s p t asking (d - 1) start m r → CodedAt Query s p t c d at r
       unfolding BranchesOf
       query-listed r h = query-by r h
 
-      pub query-idle : (b : Bool) (r : ℕ) → FindsIdle (c .around) b → b ≡ true → PairAt s p t asking (d - 1) start r → CodedAt Query s p t c d at r
-      query-idle b r f z g = query-listed r (asked-idle s p t asking (d - 1) start m b r f z g)
+      pub query-free : (b : Bool) (r : ℕ) → b ≡ c .around .free → b ≡ true → PairAt s p t asking (d - 1) start r → CodedAt Query s p t c d at r
+      query-free b r f z g = query-listed r (asked-free s p t asking (d - 1) start m r (sym is ∙ e) (sym f ∙ z) g)
 
       pub query-known : (b : Bool) (r : ℕ) → KnownAt p t m b → b ≡ true → BothAt s p t t asking asking (d - 1) start r → CodedAt Query s p t c d at r
       query-known b r f z g = query-listed r (asked-known s p t asking (d - 1) start m b r f z g)
@@ -655,14 +630,20 @@ module _ (s p t : List ℕ) (c : Context) (d at : ℕ) where
       let w = within-one p (roles s) (variables p) (c .around) around (st .surrounded) (sym f ∙ e) in
       rw (u .is, w .is) (stopped-told r 15 at re (omega arith) (low-start st d at h))
 
-  pub transaction-body : (m : ℕ) (a : List ℕ) (r : ℕ) (i : Bool) → i ≡ c .around .inside → i ≡ false → m ≡ afterList p at 2 → Enters p t (d - 1) at a
+  pub transaction-body : (m : ℕ) (a : List ℕ) (r : ℕ) (i : Bool) → i ≡ c .around .inside → i ≡ false → m ≡ afterList p at 2 → Enters p t (c .around) (c .labels) (d - 1) at a
       → CheckedAt s p t (contextOf a (c .labels .readers) (c .labels .trusters) (c .labels .asked)) (d - 1) m r → CodedAt Transaction s p t c d at r
   unfolding CodedAt CheckedAt EnteredAt flow
   transaction-body m a r i ie e me f g code around known C x end st h fit =
       let u = transaction-parts p (principals s) (roles s) (variables p) d at h code in
-      let w = within-none p (roles s) (variables p) (c .around) around (st .surrounded) (sym ie ∙ e) in
+      let (w, o) = within-none p (roles s) (variables p) (c .around) around (st .surrounded) (sym ie ∙ e) in
       let fits = rw (u .is) at (fit .0) in
       let v = f .entered (principals s) (roles s) (variables p) (u .listed) (u .body) end (roles-few st) (st .few) (u .inside) (u .listed-read) (fits .0) (u .body-read) (fits .1) in
+      let held : MetBoth p t (assigned (u .body)) (mutated (u .body)) (meetsOf a) = rw (v .variables-are, v .roles-are) at (f .held) in
+      let all = allBelow (variables p) in
+      let l = withNamed (withLabels (c .labels) (c .around .readers) (c .around .trusters)) (aroundOf a .named) in
+      let flows : ContextIs (roles s) l (mayFlow p (u .listed) C) =
+      rw (o .readers-are, o .trusters-are, v .named-are)
+      (context-list (roles s) _ _ (under-expr st all (all-fits (variables p) (variables p) (omega arith))) (roles-few st) (u .listed) (fits .0)) in
       let mm : m ≡ bodyStart p at = me ∙ list-is p at 2 (u .inside) in
       rw (u .is, w)
       (g (inside (u .listed) (assigned (u .body)) (mutated (u .body))) known C (u .body) end (record {
@@ -671,8 +652,9 @@ module _ (s p t : List ℕ) (c : Context) (d at : ℕ) where
         few = st .few;
         labels = st .labels;
         knows = st .knows;
-        surrounded = rw (f .held .same) v;
-        met = met-same p t (meetsOf a) (v .variables-are) (v .roles-are) (f .held .right);
+        surrounded = v;
+        met = λ _. held;
+        free = λ z. free-met s p (u .listed) (assigned (u .body)) (mutated (u .body)) t l (meetsOf a) known C held (stands-asked st l flows) (v .variables-below) (v .roles-below) (st .few) (f .free z);
         context = st .context;
       }) (rw mm (u .body-read)) (fits .1, writes-body (u .listed) (u .body)))
 

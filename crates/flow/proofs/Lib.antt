@@ -1,2 +1,3 @@
+mod FreeLaws
 mod CheckLaws
 mod VerdictLaws

@@ -2,7 +2,9 @@
 use mathlib.Core.Path.{_≡_, refl, sym, ap, _∙_}
 use Prim.Native.Nat.{ℕ, _+_, _*_, _/_, _%_, _<_, _≤_}
 use native.Mathlib.Omega.{arith}
-use mathlib.Core.List.{List, []}
+use mathlib.Core.List.{List, [], _∷_}
+use native.Mathlib.Nat.{lt-of-lt-of-le}
+use lib.Bits.{or-zero-r}
 use lib.ListN.{length, getD}
 use native.Mathlib.Decide.{decLt}
 use borrow.Author.Tests.{ne-eqb, lt-leb}
@@ -12,17 +14,19 @@ use Rattle.model.specs.Policy.{reading, trust, principals, roles, policyNumber,
 use Rattle.model.specs.Syntax.{Stmt}
 use Rattle.model.specs.Program.{Read as Reading, got, bad, variables, bodyAt, readProgram}
 use Rattle.model.specs.Flow.{outside, flow, bodyVerdict, programVerdict}
+use Rattle.model.proofs.Accepted.{accepted-facts}
 use Rattle.model.proofs.Reading.{ProgramParts, program-parts}
 use Rattle.order.specs.Table.{Knows}
 use Rattle.program.specs.declared.answer.Answer.{Answer}
 use Rattle.program.specs.declared.answer.Answer.the-variants as answer
 use Rattle.program.specs.Answer.{reached, stopped, reachedBy, placeLimit, told, endOf}
 use Rattle.program.proofs.AnswerLaws.{position-told, refusal-told}
-use Rattle.gathered.specs.Labels.{LabelsBelow}
+use Rattle.gathered.specs.Words.{exprRoles}
+use Rattle.gathered.specs.Labels.{LabelsBelow, labelsAdded, allBelow, AllAdded}
 use Rattle.flow.specs.declared.verdict.Verdict.{Verdict}
 use Rattle.flow.specs.declared.verdict.Verdict.the-variants.{Fine, Refused}
-use Rattle.context.specs.Context.{aroundWords, contextOf}
-use Rattle.flow.specs.Check.{Writes, checkedTo, Ready, CheckedAt}
+use Rattle.context.specs.Context.{aroundWords, aroundOf, contextOf}
+use Rattle.flow.specs.Check.{Outside, Free, Writes, checkedTo, Ready, CheckedAt}
 use Rattle.flow.specs.Verdict.{verdictOf, BodyVerdict}
 use Rattle.context.proofs.ContextLaws.{context-none}
 use Rattle.flow.proofs.CheckLaws.{reached-not}
@@ -46,21 +50,35 @@ program-short p P R {x} {end} h = go (decLt programBytes (length p))
 pub body-ready : (s t a : List ℕ) → Accepted s → Knows s [] t → length a ≡ aroundWords → Ready s t a
 body-ready s t a ok k l = record { is-accepted = ok; long = k .long; wide = l }
 
-module _ (s p t : List ℕ) (n start : ℕ) (a : List ℕ) (ok : Accepted s) (k : Knows s [] t) (e₁ : n ≡ variables p) (e₂ : start ≡ bodyAt n) (ea : getD a 0 0 ≡ 0) (o : ℕ)
+module _ (s p t : List ℕ) (n start : ℕ) (a w : List ℕ) (ok : Accepted s) (k : Knows s [] t) (e₁ : n ≡ variables p) (e₂ : start ≡ bodyAt n)
+    (all : AllAdded p n (0 ∷ 0 ∷ []) w) (ea : getD a 0 0 ≡ 0) (er : getD a 10 0 ≡ getD w 0 0) (et : getD a 11 0 ≡ getD w 1 0) (o : ℕ)
     (f : CheckedAt s p t (contextOf a 0 0 0) statementDepth start o) where
+  -- no transaction around it, and the roles among the labels of all variables
+  body-outside : LabelsBelow (roles s) p (variables p) → Outside p (variables p) (aroundOf a)
+  unfolding LabelsBelow AllAdded
+  body-outside below =
+      let e : w ≡ labelsAdded p (allBelow (variables p)) (0 ∷ 0 ∷ []) = rw e₁ at all (λ side x l n. lt-of-lt-of-le (below side x l n) (accepted-facts s ok .roles-fit)) in
+      record {
+        flag = rw ea;
+        readers-are = er ∙ ap (λ (l : List ℕ). getD l 0 0) e ∙ or-zero-r (exprRoles p reading (allBelow (variables p)));
+        trusters-are = et ∙ ap (λ (l : List ℕ). getD l 1 0) e ∙ or-zero-r (exprRoles p trust (allBelow (variables p)));
+      }
+
   body-is : (x : Stmt) (end : ℕ) → readProgram p (principals s) (roles s) ≡ got x end → told o ≡ checkedTo (flow s p outside [] (λ side. []) x) end
-  unfolding CheckedAt Writes
+  unfolding CheckedAt Writes Free
   body-is x end h =
       let u = program-parts p (principals s) (roles s) h in
       let at : start ≡ 6 + 2 * variables p = omega arith in
+      let below = labels-below p (principals s) (roles s) u in
       f outside [] (λ side. []) x end (record {
         is-accepted = ok;
         short = program-short p (principals s) (roles s) h;
         few = u .few;
-        labels = labels-below p (principals s) (roles s) u;
+        labels = below;
         knows = k;
-        surrounded = rw ea;
+        surrounded = body-outside below;
         met = tt;
+        free = λ _. tt;
         context = context-none (roles s);
       }) (rw at (u .body-read)) (u .fits, tt)
 

@@ -8,18 +8,23 @@ use lib.ListN.{length}
 use Rattle.model.specs.Number.{Verdict, fine, refused, orElse}
 use Rattle.model.specs.Limits.{variableLimit, roleLimit}
 use Rattle.model.specs.Bytes.{byte}
-use Rattle.model.specs.Policy.{Side, principals, roles, Accepted}
+use Rattle.model.specs.Sets.{has}
+use Rattle.model.specs.Policy.{Side, reading, trust, principals, roles, Accepted}
 use Rattle.model.specs.Syntax.{Atom, Query, Stmt}
 use Rattle.model.specs.Program.{got, variables, readMany, readQuery, readStmt}
 use Rattle.model.specs.Fits.{Each, QueryFits, Fits}
-use Rattle.model.specs.Flow.{Around as Surroundings, outside, inside, assigned, mutated, flow}
+use Rattle.model.specs.Order.{AtMost}
+use Rattle.model.specs.Flow.{Around as Surroundings, outside, inside, underExpr, updateJoin, assigned, mutated, flow}
 use Rattle.order.specs.Table.{tableWords, Knows, listRoles, Learnt}
 use Rattle.program.specs.declared.codes.Statement.{Statement}
 use Rattle.program.specs.Answer.{Reached, reached, stopped, placeLimit, refusal, told}
 use Rattle.program.specs.Codes.{statementByte}
-use Rattle.gathered.specs.Labels.{LabelsBelow}
-use Rattle.context.specs.Context.{Around, Meets, Labels, Context, aroundWords, aroundOf, ContextIs}
-use Rattle.context.specs.Judge.{SetBelow, MetBoth, Held}
+use Rattle.gathered.specs.Words.{exprRoles}
+use Rattle.gathered.specs.Labels.{LabelsBelow, allBelow}
+use Rattle.context.specs.declared.judge.Written.{Written}
+use Rattle.context.specs.declared.judge.Written.the-variants.{Variable, Role}
+use Rattle.context.specs.Context.{Around, Meets, Labels, Context, aroundWords, aroundOf, meetsOf, withLabels, withNamed, joinOf, meetOf, ContextIs}
+use Rattle.context.specs.Judge.{SetBelow, targetOf, liesIn, MetBoth}
 
 -- how far the check of a statement came that ends at a position: by its verdict, or by a number at a place
 unfoldable pub checkedTo : Verdict → ℕ → Reached
@@ -52,15 +57,36 @@ pub record Inside (p : List ℕ) (R vars : ℕ) (a : Around) (listed : List Quer
   pub roles-are : a .roles ≡ rs
   pub roles-below : SetBelow rs R
 
--- and for what surrounds a statement
+-- or for none, with the roles among the labels of all variables
+pub record Outside (p : List ℕ) (vars : ℕ) (a : Around) : Type 0 where
+  pub flag : a .inside ≡ false
+  pub readers-are : a .readers ≡ exprRoles p reading (allBelow vars)
+  pub trusters-are : a .trusters ≡ exprRoles p trust (allBelow vars)
+
+-- and so for what surrounds a statement
 abbrev pub AroundIs : List ℕ → ℕ → ℕ → Around → Surroundings → Type 0
-AroundIs p R vars a outside = a .inside ≡ false
+AroundIs p R vars a outside = Outside p vars a
 AroundIs p R vars a (inside listed xs rs) = Inside p R vars a listed xs rs
 
 -- and what an update there, if there is one, is held to by the table t
 abbrev pub MeetsAre : List ℕ → List ℕ → Meets → Surroundings → Type 0
 MeetsAre p t m outside = Unit {0}
 MeetsAre p t m (inside listed xs rs) = (rs ≡ 0 → ⊥) → MetBoth p t xs rs m
+
+-- all that may flow in a transaction from a context on: the labels of all variables, the context, the labels of its listed queries
+abbrev pub mayFlow : List ℕ → List Query → (Side → List Atom) → Side → List Atom
+mayFlow p listed C side = updateJoin (underExpr p (allBelow (variables p)) C) listed side
+
+-- what a transaction writes
+abbrev pub writesOf : ℕ → ℕ → Written → ℕ
+writesOf xs rs Variable = xs
+writesOf xs rs Role = rs
+
+-- a transaction is free where all that may flow in it is at most all that it writes
+unfoldable pub Free : List ℕ → List ℕ → Surroundings → List Query → (Side → List Atom) → Type 0
+Free s p outside known C = Unit {0}
+Free s p (inside listed xs rs) known C =
+    (side : Side) (w : Written) (x : ℕ) (a : Atom) → has (writesOf xs rs w) x ≡ true → List·Memᴰ a (mayFlow p listed C side) → AtMost s known a (targetOf p side w x)
 
 -- what the code carries to a statement stands for what the rules speak of there
 pub record Stands (s p t : List ℕ) (c : Context) (around : Surroundings) (known : List Query) (C : Side → List Atom) : Type 0 where
@@ -71,16 +97,21 @@ pub record Stands (s p t : List ℕ) (c : Context) (around : Surroundings) (know
   pub knows : Knows s known t
   pub surrounded : AroundIs p (roles s) (variables p) (c .around) around
   pub met : MeetsAre p t (c .meets) around
+  pub free : c .around .free ≡ true → Free s p around known C
   pub context : ContextIs (roles s) (c .labels) C
 
 -- the statement that was read at a position
 abbrev pub StmtAt : List ℕ → List ℕ → ℕ → ℕ → Stmt → ℕ → Type 0
 StmtAt s p depth at x end = readStmt p (principals s) (roles s) (variables p) depth at ≡ got x end
 
--- where the transaction around assigns nothing, or mutates nothing, neither does what stands in it
+-- every number in a is in b
+abbrev pub Subset : ℕ → ℕ → Type 0
+Subset a b = (i : ℕ) → has a i ≡ true → has b i ≡ true
+
+-- what stands in a transaction assigns and mutates only what the transaction does
 unfoldable pub Writes : Surroundings → Stmt → Type 0
 Writes outside x = Unit {0}
-Writes (inside listed xs rs) x = (xs ≡ 0 → assigned x ≡ 0) × (rs ≡ 0 → mutated x ≡ 0)
+Writes (inside listed xs rs) x = Subset (assigned x) xs × Subset (mutated x) rs
 
 -- it names only what there is
 abbrev pub StmtFits : List ℕ → List ℕ → Surroundings → Stmt → Type 0
@@ -149,8 +180,10 @@ EnteredAt p depth at r =
     → readStmt p P R vars depth (bodyStart p at) ≡ got body end → Fits P R vars body
     → Inside p R vars (aroundOf r) listed (assigned body) (mutated body)
 
--- r is those words, with its updates held to what they are by the table t
-pub record Enters (p t : List ℕ) (depth at : ℕ) (r : List ℕ) : Type 0 where
-  pub words : List ℕ
-  pub entered : EnteredAt p depth at words
-  pub held : Held p t words r
+-- r is those words, entered from the words a in a context: its updates are held to what they are by the table t, and it is
+-- said to be free only where all that may flow lies in its meets
+pub record Enters (p t : List ℕ) (a : Around) (l : Labels) (depth at : ℕ) (r : List ℕ) : Type 0 where
+  pub long : length r ≡ aroundWords
+  pub entered : EnteredAt p depth at r
+  pub held : MetBoth p t (aroundOf r .variables) (aroundOf r .roles) (meetsOf r)
+  pub free : aroundOf r .free ≡ true → (side : Side) → liesIn (joinOf side (withNamed (withLabels l (a .readers) (a .trusters)) (aroundOf r .named))) (meetOf side (meetsOf r)) ≡ true

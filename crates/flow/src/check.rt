@@ -9,7 +9,7 @@ ghost use Rattle.model.specs.Policy.{Accepted};
 ghost use Rattle.order.specs.Table.{tableWords};
 ghost use Rattle.program.specs.declared.codes.Statement.the-variants.{Block, If, While, Query, Transaction};
 ghost use Rattle.context.specs.Context.{aroundWords, aroundOf, labelsOf, contextOf};
-ghost use Rattle.flow.specs.Check.{numberedWord, Ready, EnteredAt, Enters, CheckedAt, CodedAt, AssignAt, UpdateAt, PairAt, BothAt, LearntAt, BranchesOf};
+ghost use Rattle.flow.specs.Check.{numberedWord, Ready, Enters, CheckedAt, CodedAt, AssignAt, UpdateAt, PairAt, BothAt, LearntAt, BranchesOf};
 use context::around;
 use context::judge;
 use context::lists;
@@ -106,41 +106,53 @@ fn check_update(
     answer::refused(number::FLOW_TRANSACTION, at)
 }
 
-// The words of the transaction whose code stands at `at`, its updates held to nothing yet.
-fn entered(program: &[u8], depth: u8, at: usize) -> [u64; around::WORDS]
-    ensures { λ r. ⌜ EnteredAt (now (program .entry)) depth at r ⌝ }
+// The words of the transaction whose code stands at `at`, its updates held to what they are by the table. All that may flow in it
+// are the labels of all variables, the context around it and the labels of its listed queries. The words are written where they
+// stay: in a copy of words just written the processor would wait for them.
+fn enter(
+    program: &[u8],
+    table: &[u64; table::TABLE_WORDS],
+    around: &[u64; around::WORDS],
+    readers: u64,
+    trusters: u64,
+    asked: u64,
+    depth: u8,
+    at: usize,
+    inside: &mut [u64; around::WORDS],
+)
+    requires { ⌜ (length (now table) ≡ tableWords) × (length (now around) ≡ aroundWords) ⌝ }
+    ensures { λ _. ⌜ Enters (now (program .entry)) (now (table .entry)) (aroundOf (now (around .entry))) (labelsOf readers trusters asked) depth at (now (inside .exit)) ⌝ }
 {
     let count = bytes::byte_at(program, positions::ahead(program, at, 1));
     let list = positions::ahead(program, at, 2);
     let body = positions::after_list(program, at, positions::QUERY_BYTES);
     let mut written = [0u64; 2];
     let _ = writes::stmt_writes(&program[..], depth, body, &mut written);
-    [
+    let named = lists::list_roles(&program[..], count, list);
+    let reading = judge::meet_of(&program[..], table, false, written[0], written[1]);
+    let trust = judge::meet_of(&program[..], table, true, written[0], written[1]);
+    let free = judge::held_number(
+        reading,
+        trust,
+        around[around::READERS] | readers,
+        around[around::TRUSTERS] | trusters,
+        named | asked,
+    );
+    *inside = [
         1,
         list as u64,
         bytes::wide(count) as u64,
-        lists::list_roles(program, count, list),
+        named,
         written[0],
         written[1],
+        reading.roles,
+        reading.watchers,
+        trust.roles,
+        trust.watchers,
         0,
         0,
-        0,
-        0,
-    ]
-}
-
-// The same, with its updates held to what they are by the table.
-fn entered_held(
-    program: &[u8],
-    table: &[u64; table::TABLE_WORDS],
-    depth: u8,
-    at: usize,
-) -> [u64; around::WORDS]
-    requires { ⌜ length (now table) ≡ tableWords ⌝ }
-    ensures { λ r. ⌜ Enters (now (program .entry)) (now (table .entry)) depth at r ⌝ }
-{
-    let around = entered(program, depth, at);
-    judge::held(program, table, &around)
+        free as u64,
+    ];
 }
 
 // Where no statement stands any answer is right.
@@ -384,9 +396,9 @@ fn check_while(
     )
 }
 
-// Only in a transaction whose list holds it. In a transaction that writes nothing no table is asked, so what it knows does not
-// matter. A query that the table knows already needs no table of its own: so however deep queries nest, no more tables are
-// held at once than a transaction lists queries.
+// Only in a transaction whose list holds it. In a free transaction every test passes already, so nothing need be learnt. A query
+// that the table knows already needs no table of its own: so however deep queries nest, no more tables are held at once than a
+// transaction lists queries.
 fn check_query(
     policy: &[u8],
     program: &[u8],
@@ -412,7 +424,7 @@ fn check_query(
         ) {
             let named = lists::query_roles(&program[..], query) | asked;
             let start = positions::ahead(program, at, 3);
-            if around::is_idle(around) {
+            if around::is_free(around) {
                 return check_pair(
                     &policy[..],
                     &program[..],
@@ -590,7 +602,18 @@ fn check_transaction(
     }
     let inner = depth - 1;
     let body = positions::after_list(program, at, positions::QUERY_BYTES);
-    let inside = entered_held(&program[..], table, inner, at);
+    let mut inside = [0u64; around::WORDS];
+    enter(
+        &program[..],
+        table,
+        around,
+        readers,
+        trusters,
+        asked,
+        inner,
+        at,
+        &mut inside,
+    );
     check_stmt(
         &policy[..],
         &program[..],

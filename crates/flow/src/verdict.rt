@@ -7,6 +7,7 @@ ghost use Rattle.model.specs.Flow.{bodyVerdict, programVerdict};
 ghost use Rattle.flow.specs.Verdict.{verdictOf, BodyVerdict};
 use super::check;
 use context::around;
+use gathered::labels;
 use order::table;
 use policy::rows;
 use program::answer;
@@ -28,8 +29,13 @@ fn body_verdict(policy: &[u8], program: &[u8]) -> Verdict
 {
     let mut table = [0u64; table::TABLE_WORDS];
     order::base::base_table(policy, &mut table);
-    let around = [0u64; around::WORDS];
-    let start = layout::body_at(layout::variables_of(program));
+    let variables = layout::variables_of(program);
+    let mut labels = [0u64; 2];
+    labels::all_labels(&program[..], variables, &mut labels);
+    let mut around = [0u64; around::WORDS];
+    around[around::READERS] = labels[0];
+    around[around::TRUSTERS] = labels[1];
+    let start = layout::body_at(variables);
     let checked = check::check_stmt(
         policy,
         program,

@@ -1,6 +1,6 @@
 -- A law for each return of labels.rt: the words of the tree that was read.
 use mathlib.Core.Path.{_≡_, refl, sym, ap, _∙_}
-use Prim.Native.Nat.{ℕ, _+_, _-_, _<_}
+use Prim.Native.Nat.{ℕ, suc, _+_, _-_, _<_, _≤_}
 use mathlib.Core.List.{List}
 use mathlib.Core.Bool.{Bool, true, false}
 use native.Mathlib.Omega.{arith}
@@ -28,7 +28,7 @@ use Rattle.program.proofs.CodeLaws.{atom-byte, none-high, expression-byte, expr
 use Rattle.model.specs.Program.{labelByte}
 use Rattle.gathered.specs.Words.{labelRole, exprRoles}
 use Rattle.gathered.specs.Positions.{ahead}
-use Rattle.gathered.specs.Labels.{LabelsBelow, variableAdded, LabelsAt}
+use Rattle.gathered.specs.Labels.{LabelsBelow, variableAdded, labelsAdded, allBelow, AllAdded, LabelsAt}
 use Rattle.model.proofs.Standing.{expr-deep, expr-there, expr-known, constant-parts, variable-parts, binary-parts}
 use Rattle.gathered.proofs.PositionLaws.{ahead-is, operator-code}
 use Rattle.gathered.proofs.AddedLaws.{added, length-stored, length-added, added-none, added-both, added-first, added-second}
@@ -68,6 +68,37 @@ right-label x f = go (eqb x 0xff) refl
     go : (b : Bool) → eqb x 0xff ≡ b → single x ≡ labelRole x
     go true e = let z : x ≡ 0xff = eqb-true _ _ e in rw z (sym (single-high 0xff (omega arith)))
     go false e = single-is x (f (eqb-false _ _ e)) ∙ simp e
+
+-- all variables below x, of n
+pub record Gathered (p w : List ℕ) (n x : ℕ) (v : List ℕ) : Type 0 where
+  pub long : length v ≡ 2
+  pub few : x ≤ n
+  pub added : AllAdded p x w v
+
+all-next : (p w v : List ℕ) (x : ℕ) → AllAdded p x w v → AllAdded p (suc x) w (variableAdded p x v)
+unfolding AllAdded LabelsBelow allBelow exprRoles
+all-next p w v x f right =
+    let a = right-label (labelByte p reading x) (right reading x (omega arith)) in
+    let b = right-label (labelByte p trust x) (right trust x (omega arith)) in
+    let g : v ≡ labelsAdded p (allBelow x) w = f (λ side y m. right side y (omega arith)) in
+    rw (a, b, g) (added-both (exprRoles p reading (allBelow x)) (exprRoles p trust (allBelow x)) (labelRole (labelByte p reading x)) (labelRole (labelByte p trust x)) w)
+
+module _ (p w : List ℕ) (n : ℕ) where
+  pub all-none : length w ≡ 2 → Gathered p w n 0 w
+  unfolding AllAdded allBelow exprRoles
+  all-none l = record { long = l; few = omega arith; added = λ right. added-none w l }
+
+  module _ (x : ℕ) (v : List ℕ) (f : Gathered p w n x v) where
+    pub all-more : (u : List ℕ) → x < n → u ≡ variableAdded p x v → Gathered p w n (x + 1) u
+    all-more u l e = let k : x + 1 ≡ suc x = omega arith in rw (k, e) (record { long = refl; few = l; added = all-next p w v x (f .added) })
+
+    pub all-long : length v ≡ 2
+    all-long = f .long
+
+    pub all-done : n ≤ x → AllAdded p n w v
+    all-done l = let e : n ≡ x = omega (arith, f .few) in rw e (f .added)
+
+pub ruleset alls = (all-none, all-more, all-long, all-done)
 
 -- an expression
 module _ (p : List ℕ) (d at : ℕ) where

@@ -3,7 +3,7 @@
 ghost use mathlib.Core.Path.{_≡_};
 ghost use lib.ListN.{length};
 ghost use Rattle.shared.specs.Words.{single};
-ghost use Rattle.gathered.specs.Labels.{variableAdded, LabelsAt};
+ghost use Rattle.gathered.specs.Labels.{variableAdded, AllAdded, LabelsAt};
 use super::positions;
 use program::codes;
 use program::codes::Atom;
@@ -36,6 +36,19 @@ fn add_variable(program: &[u8], x: u8, labels: &mut [u64; 2])
 {
     labels[0] = label_role(layout::label_of(program, false, x)) | labels[0];
     labels[1] = label_role(layout::label_of(program, true, x)) | labels[1];
+}
+
+// Adds the labels of all variables.
+pub fn all_labels(program: &[u8], variables: u8, labels: &mut [u64; 2])
+    requires { ⌜ length (now labels) ≡ 2 ⌝ }
+    ensures { λ _. ⌜ AllAdded (now (program .entry)) variables (now (labels .entry)) (now (labels .exit)) ⌝ }
+    ensures same { λ _. ⌜ length (now (labels .exit)) ≡ 2 ⌝ }
+{
+    let mut x = 0u8;
+    while x < variables {
+        add_variable(program, x, labels);
+        x += 1;
+    }
 }
 
 // An expression's label joins its variables' labels; constants add nothing. Where no expression stands any answer is right.

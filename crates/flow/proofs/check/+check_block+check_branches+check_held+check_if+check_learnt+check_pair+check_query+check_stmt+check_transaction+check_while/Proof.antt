@@ -1,7 +1,7 @@
 -- The cycle of checks: each return is the verdict of the tree that stands at the position, by a law for that return; the
 -- remaining depth falls, and where it stays each callee comes after its caller. A block: what is left of it decides.
 use Rattle.context.specs.Context.{contextOf}
-use Rattle.flow.proofs.CheckLaws.{Blocking, pair-first, pair-second, few-roles, ready-table, ready-held, ready-entered, branches-first, branches-second, held-both, learnt-none, learnt-both, block-start, block-done, block-refused, block-more, block-skip, if-checked, while-checked, query-outside, query-unlisted, query-idle, query-known, query-listed, transaction-nested, transaction-body, stmt-none, stmt-unknown, stmt-skip, stmt-assign, stmt-update, stmt-coded}
+use Rattle.flow.proofs.CheckLaws.{Blocking, pair-first, pair-second, few-roles, ready-table, ready-held, ready-entered, branches-first, branches-second, held-both, learnt-none, learnt-both, block-start, block-done, block-refused, block-more, block-skip, if-checked, while-checked, query-outside, query-unlisted, query-free, query-known, query-listed, transaction-nested, transaction-body, stmt-none, stmt-unknown, stmt-skip, stmt-assign, stmt-update, stmt-coded}
 use borrow.Author.Needs.{needs}
 use Prim.Native.Nat.{ℕ, _<_, _+_, _*_}
 use borrow.Fn.Kinds.{In}
@@ -38,9 +38,9 @@ use Rattle.flow.proofs.check.check_while.Kinds as check-while-kinds
 use Rattle.flow.proofs.check.+check_block+check_branches+check_held+check_if+check_learnt+check_pair+check_query+check_stmt+check_transaction+check_while.Lts-check_while as check-while-lts
 use Rattle.flow.proofs.check.check_assign.Reads as check-assign-reads
 use Rattle.flow.proofs.check.check_update.Reads as check-update-reads
-use Rattle.flow.proofs.check.entered_held.Reads as entered-held-reads
+use Rattle.flow.proofs.check.enter.Reads as enter-reads
 use Rattle.context.proofs.around.count_of.Reads as count-of-reads
-use Rattle.context.proofs.around.is_idle.Reads as is-idle-reads
+use Rattle.context.proofs.around.is_free.Reads as is-free-reads
 use Rattle.context.proofs.around.is_inside.Reads as is-inside-reads
 use Rattle.context.proofs.around.list_of.Reads as list-of-reads
 use Rattle.context.proofs.judge.held.Reads as held-reads
@@ -324,8 +324,8 @@ pub +check-block+check-branches+check-held+check-if+check-learnt+check-pair+chec
       is-listed-reads.Learnt,
       query-roles-reads.Asked,
       query-roles-reads.Learnt,
-      is-idle-reads.Asked,
-      is-idle-reads.Learnt,
+      is-free-reads.Asked,
+      is-free-reads.Learnt,
       check-pair-below t,
       check-pair.Post,
       is-known-reads.Asked,
@@ -349,7 +349,7 @@ pub +check-block+check-branches+check-held+check-if+check-learnt+check-pair+chec
     (λ c κs. search needs)
     (λ c κs. search needs)
     (λ c κs. search needs)
-    (λ c. search (needs, query-idle))
+    (λ c. search (needs, query-free))
     (λ c κs. search needs)
     (λ c κs. search needs)
     (λ c. search (needs, query-known))
@@ -421,8 +421,8 @@ pub +check-block+check-branches+check-held+check-if+check-learnt+check-pair+chec
       refused-reads.Learnt,
       after-list-reads.Asked,
       after-list-reads.Learnt,
-      entered-held-reads.Asked,
-      entered-held-reads.Learnt,
+      enter-reads.Asked,
+      enter-reads.Learnt,
       check-stmt-below t,
       check-stmt.Post,
     )
