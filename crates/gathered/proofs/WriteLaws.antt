@@ -1,6 +1,6 @@
 -- A law for each return of writes.rt, and the loops: what was gathered, with what is left to walk, is the whole.
 use mathlib.Core.Path.{_≡_, refl, sym, ap, _∙_}
-use Prim.Native.Nat.{ℕ, _+_, _-_, _^_, _<_, _≤_}
+use Prim.Native.Nat.{ℕ, _+_, _-_, _*_, _^_, _%_, _<_, _≤_}
 use mathlib.Core.List.{List}
 use mathlib.Core.Bool.{Bool, true}
 use native.Mathlib.Omega.{arith}
@@ -25,7 +25,7 @@ use Rattle.program.specs.Codes.{statementOf, statementByte}
 use Rattle.program.proofs.CodeLaws.{statement-byte, statement-none}
 use Rattle.gathered.specs.Positions.{ahead, afterList, ExprEnds}
 use Rattle.gathered.specs.Writes.{Fit, writesAdded, WritesAt, AssignWrites, PairWrites, BlockWrites, UpdateWrites}
-use Rattle.model.proofs.Standing.{many-none, many-more, mutation-parts, stmt-deep, stmt-there, stmt-known, skip-parts, assign-parts, block-parts, if-parts, while-parts, branch-parts, update-parts, transaction-parts}
+use Rattle.model.proofs.Standing.{many-none, many-more, mutation-parts, mutations-end, stmt-deep, stmt-there, stmt-known, skip-parts, assign-parts, block-parts, if-parts, while-parts, branch-parts, update-parts, transaction-parts}
 use Rattle.gathered.proofs.PositionLaws.{ahead-is, list-is}
 use Rattle.gathered.proofs.AddedLaws.{length-stored, added-none, added-both, added-first, added-second}
 use Rattle.model.proofs.Sets.{or-assoc}
@@ -40,25 +40,36 @@ unfoldable pub Mutating : List ℕ → ℕ → ℕ → ℕ → ℕ → Type 0
 Mutating p at left next roles =
     (P R : ℕ) → R ≤ roleLimit → at < length p → (ms : List Mutation) (end : ℕ) → readMany (readMutation p P R) (byte p at) (at + 1) ≡ got ms end → Mutated p P R left next roles ms end
 
+pub role-with : (p : List ℕ) (at roles role r : ℕ) → role ≡ byte p (at + 1) → r ≡ with roles (role % 64) → r ≡ with roles (byte p (at + 1) % 64)
+role-with p at roles role r e f = rw (← e) f
+
+-- where the list does not lie within the bytes no mutations were read
+module _ (p : List ℕ) (at : ℕ) (w v : List ℕ) (r : ℕ) where
+  pub mutations-past : length p ≤ at → UpdateWrites p at w v r
+  unfolding UpdateWrites
+  mutations-past h P R few l ms end e = absurd (omega arith)
+
+  pub mutations-short : (n : ℕ) → n ≡ byte p at → length p - (at + 1) < 3 * n → UpdateWrites p at w v r
+  unfolding UpdateWrites
+  mutations-short n e h P R few l ms end g = absurd (omega (arith, mutations-end p P R (byte p at) (at + 1) g (omega arith)))
+
 module _ (p : List ℕ) (at left next : ℕ) where
-  pub mutating-start : left ≡ byte p at → next ≡ ahead p at 1 → Mutating p at left next 0
+  pub mutating-start : left ≡ byte p at → next ≡ at + 1 → Mutating p at left next 0
   unfolding Mutating
-  mutating-start e f P R few l ms end h = record { rest = ms; rest-read = rw (e, f, ahead-is p at 1 (omega arith)) h; roles-are = or-zero-l (rolesOf ms) }
+  mutating-start e f P R few l ms end h = record { rest = ms; rest-read = rw (e, f) h; roles-are = or-zero-l (rolesOf ms) }
 
   module _ (roles : ℕ) (inv : Mutating p at left next roles) where
-    pub mutating-more : (q role w word n : ℕ) → 0 < left → q ≡ ahead p next 1 → role ≡ byte p q → w ≡ role → word ≡ single w → n ≡ ahead p next 3 → Mutating p at (left - 1) n (bitOr roles word)
+    pub mutating-more : (word : ℕ) → 0 < left → word ≡ with roles (byte p (next + 1) % 64) → Mutating p at (left - 1) (next + 3) word
     unfolding Mutating rolesOf
-    mutating-more q role w word n some e f s g i P R few l ms end h =
+    mutating-more word some f P R few l ms end h =
         let u = inv P R few l ms end h in
         let v = many-more (readMutation p P R) left next (u .rest-read) some in
         let m = mutation-parts p P R next (v .head-read) in
-        let j : role ≡ v .head .role = f ∙ ap (byte p) (e ∙ ahead-is p next 1 (omega arith)) ∙ sym (m .role-byte) in
-        let k : word ≡ 2 ^ v .head .role = g ∙ ap single (s ∙ j) ∙ single-is (v .head .role) (omega arith) in
-        let o : n ≡ v .mid = i ∙ ahead-is p next 3 (m .inside) ∙ sym (m .ends) in
+        let j : byte p (next + 1) % 64 ≡ v .head .role = omega (arith, m .role-byte, m .role-fits) in
         record {
           rest = v .tail;
-          rest-read = rw o (v .tail-read);
-          roles-are = rw k (or-assoc roles (2 ^ v .head .role) (rolesOf (v .tail)) ∙ rw (or-comm (2 ^ v .head .role) (rolesOf (v .tail))) (rw (v .is) at (u .roles-are)));
+          rest-read = rw (← (m .ends)) (v .tail-read);
+          roles-are = rw (f, j) (or-assoc roles (2 ^ v .head .role) (rolesOf (v .tail)) ∙ rw (or-comm (2 ^ v .head .role) (rolesOf (v .tail))) (rw (v .is) at (u .roles-are)));
         }
 
     pub mutating-done : (w : List ℕ) → left ≤ 0 → length w ≡ 2 → UpdateWrites p at w (set w 1 (bitOr roles (getD w 1 0))) next
@@ -69,7 +80,7 @@ module _ (p : List ℕ) (at left next : ℕ) where
         let z : roles ≡ rolesOf ms = sym (or-zero-r roles) ∙ rw (v .0) at (u .roles-are) in
         (sym (v .1), added-second roles w two ∙ rw z)
 
-pub ruleset mutatings = (length-stored, mutating-start, mutating-more, mutating-done)
+pub ruleset mutatings = (length-stored, mutations-past, mutations-short, mutating-start, mutating-more, mutating-done)
 
 -- the statements of a block that are left: what they add to the words as they are is what all add
 pub record Gathered (p : List ℕ) (P R vars d left next : ℕ) (w v : List ℕ) (xs : List Stmt) (end : ℕ) : Type 0 where
