@@ -1,18 +1,19 @@
 -- A law for each return and each turn of lists.rt: the answer for what is left of a list is the answer for the whole.
 use mathlib.Core.Path.{_≡_, refl, sym, ap, subst, _∙_}
 use mathlib.Core.Logic.{⊎-elim}
-use Prim.Native.Nat.{ℕ, _+_, _-_, _<_, _≤_}
+use Prim.Native.Nat.{ℕ, zero, suc, _+_, _-_, _*_, _<_, _≤_}
 use mathlib.Core.List.{List}
 use mathlib.Core.Bool.{Bool, true, false, cond}
 use native.Mathlib.Omega.{arith}
 use lib.Dec.{eqb, ltb}
+use lib.ListN.{length}
 use lib.Bits.{bitOr, or-zero-l, or-zero-r}
 use borrow.Author.Tests.{ltb-true, eq-eqb, ne-eqb, not-true, not-false}
 use Rattle.model.specs.Limits.{roleLimit}
 use Rattle.model.specs.Number.{programRange}
 use Rattle.model.specs.Bytes.{byte}
 use Rattle.model.specs.Policy.{reading, trust, Accepted, principals, roles, HasRow, mayHold, mayTake}
-use Rattle.model.specs.Mutation.{Mutation, allowed}
+use Rattle.model.specs.Mutation.{Kind, addMember, deleteMember, addTaken, deleteTaken, Mutation, allowed}
 use Rattle.model.specs.Syntax.{of, Atom, role, fixed, atomByte, Query}
 use Rattle.model.specs.Program.{got, bad, readByte, readBelow, atomAt, readAtom, readQuery, mutationAt, readMutation}
 use Rattle.model.specs.Flow.{listedIn, allAllowed}
@@ -23,16 +24,12 @@ use Rattle.model.specs.Fits.{AtomFits, QueryFits}
 use Rattle.program.specs.declared.codes.Atom.{Atom as CodeAtom}
 use Rattle.program.specs.declared.codes.AtomOf.{AtomOf}
 use Rattle.program.specs.declared.codes.AtomOf.the-variants as atom
-use Rattle.program.specs.declared.codes.Kind.{Kind as CodeKind}
-use Rattle.program.specs.declared.codes.Kind.the-variants.{AddMember, DeleteMember, AddTaken, DeleteTaken}
-use Rattle.program.specs.declared.codes.KindOf.{KindOf}
-use Rattle.program.specs.declared.codes.KindOf.the-variants as kind
-use Rattle.program.specs.Codes.{atomOf, modelAtom, kindOf, kindByte, modelKind}
-use Rattle.program.proofs.CodeLaws.{atom-is, atom-some, kind-byte}
+use Rattle.program.specs.Codes.{atomOf, modelAtom}
+use Rattle.program.proofs.CodeLaws.{atom-is, atom-some}
 use Rattle.order.specs.Table.{namedRole, queryOf, queryRoles, listRoles, DecidesQuery}
 use Rattle.gathered.specs.Positions.{ahead}
-use Rattle.gathered.proofs.PositionLaws.{ahead-is, mutation-known, mutation-kind}
-use Rattle.model.proofs.Standing.{then-parts, pick-parts, either-parts, same-value, byte-parts, below-parts, many-none, many-more, query-parts, mutation-parts}
+use Rattle.gathered.proofs.PositionLaws.{ahead-is}
+use Rattle.model.proofs.Standing.{then-parts, pick-parts, either-parts, same-value, byte-parts, below-parts, many-none, many-more, query-parts, kindCode, mutation-parts, mutations-end}
 use Rattle.context.specs.declared.lists.QueryOf.{QueryOf}
 use Rattle.context.specs.declared.lists.QueryOf.the-variants as query
 use Rattle.context.specs.Lists.{SameAt, ListedAt, QueryNames, QueryAt, KnownAt, QueryRolesAt, ListRolesAt, HoldsRight, TakesRight, OneAllowedAt, AllowedAt}
@@ -249,44 +246,62 @@ taken-fits p P R at e c =
     let v = then-parts (readBelow p R (u .mid)) _ (u .after) in
     rw (same-value (v .after) .0) (below-parts p (u .mid) R (v .first) .2)
 
--- one mutation that was read: k, i and x are the code's kind, role and operand
-module _ (s p : List ℕ) (at : ℕ) (o : KindOf) (d : o ≡ kindOf (byte p at)) where
-  pub kind-unknown : (r : Bool) → o ≡ kind.No → OneAllowedAt s p at r
+-- what is allowed, by the code of the kind
+module _ (s : List ℕ) (i x : ℕ) where
+  by-member : (k : Kind) → kindCode k ≡ 0 → mayHold s i x ≡ allowed s k i x
+  unfolding allowed
+  by-member addMember e = refl
+  by-member deleteMember e = absurd (omega arith)
+  by-member addTaken e = absurd (omega arith)
+  by-member deleteTaken e = absurd (omega arith)
+
+  by-taken : (k : Kind) → kindCode k ≡ 2 → mayTake s i x ≡ allowed s k i x
+  unfolding allowed
+  by-taken addMember e = absurd (omega arith)
+  by-taken deleteMember e = absurd (omega arith)
+  by-taken addTaken e = refl
+  by-taken deleteTaken e = absurd (omega arith)
+
+  by-deletion : (k : Kind) → (kindCode k ≡ 0 → ⊥) → (kindCode k ≡ 2 → ⊥) → true ≡ allowed s k i x
+  unfolding allowed
+  by-deletion addMember n m = absurd (n refl)
+  by-deletion deleteMember n m = refl
+  by-deletion addTaken n m = absurd (m refl)
+  by-deletion deleteTaken n m = refl
+
+-- one mutation that was read
+module _ (s p : List ℕ) (at : ℕ) where
+  pub deleted : (byte p at ≡ 0 → ⊥) → (byte p at ≡ 2 → ⊥) → OneAllowedAt s p at true
   unfolding OneAllowedAt
-  kind-unknown r h m end e = absurd (mutation-known p (principals s) (roles s) at e o d h)
+  deleted n m o end c =
+      let u = mutation-parts p (principals s) (roles s) at c in
+      by-deletion s (o .role) (o .operand) (o .kind) (λ e. n (sym (u .kind-byte) ∙ e)) (λ e. m (sym (u .kind-byte) ∙ e))
 
-  module _ (k : CodeKind) (j : o ≡ kind.Is k) where
-    kind-is : {m : Mutation} {end : ℕ} → readMutation p (principals s) (roles s) at ≡ got m end → m .kind ≡ modelKind k
-    kind-is e = mutation-kind p (principals s) (roles s) at e o d k j
+  pub member-added : (r : Bool) → byte p at ≡ 0 → HoldsRight s (byte p (at + 1)) (byte p (at + 2)) r → OneAllowedAt s p at r
+  unfolding OneAllowedAt HoldsRight
+  member-added r z l o end c =
+      let u = mutation-parts p (principals s) (roles s) at c in
+      rw (← (u .role-byte), ← (u .operand-byte)) at l (u .role-fits) ∙ by-member s (o .role) (o .operand) (o .kind) (u .kind-byte ∙ z)
 
-    pub member-deleted : (r : Bool) → k ≡ DeleteMember → r ≡ true → OneAllowedAt s p at r
-    unfolding OneAllowedAt allowed
-    member-deleted r z h m end e = h ∙ rw (kind-is e ∙ ap modelKind z)
+  pub taken-added : (r : Bool) → byte p at ≡ 2 → TakesRight s (byte p (at + 1)) (byte p (at + 2)) r → OneAllowedAt s p at r
+  unfolding OneAllowedAt TakesRight
+  taken-added r z l o end c =
+      let u = mutation-parts p (principals s) (roles s) at c in
+      rw (← (u .role-byte), ← (u .operand-byte)) at l (u .role-fits) (taken-fits p (principals s) (roles s) at c z) ∙ by-taken s (o .role) (o .operand) (o .kind) (u .kind-byte ∙ z)
 
-    pub taken-deleted : (r : Bool) → k ≡ DeleteTaken → r ≡ true → OneAllowedAt s p at r
-    unfolding OneAllowedAt allowed
-    taken-deleted r z h m end e = h ∙ rw (kind-is e ∙ ap modelKind z)
+pub ruleset alloweds = (deleted, member-added, taken-added)
 
-    module _ (n m i x : ℕ) (e : n ≡ ahead p at 1) (f : m ≡ ahead p at 2) (g : i ≡ byte p n) (h : x ≡ byte p m) where
-      role-is : {o : Mutation} {end : ℕ} → readMutation p (principals s) (roles s) at ≡ got o end → o .role ≡ i
-      role-is c = let u = mutation-parts p (principals s) (roles s) at c in u .role-byte ∙ ap (byte p) (sym (ahead-is p at 1 (omega arith))) ∙ cc
+-- where the list does not lie within the bytes no mutations were read
+pub allowing-past : (s p : List ℕ) (n at : ℕ) → length p ≤ at → AllowedAt s p n at true
+unfolding AllowedAt allAllowed
+allowing-past s p zero at h ms end ok e = rw (many-none (readMutation p (principals s) (roles s)) 0 at e (omega arith) .0)
+allowing-past s p (suc n) at h ms end ok e =
+    let u = many-more (readMutation p (principals s) (roles s)) (suc n) at e (omega arith) in
+    absurd (omega (arith, mutation-parts p (principals s) (roles s) at (u .head-read) .inside))
 
-      operand-is : {o : Mutation} {end : ℕ} → readMutation p (principals s) (roles s) at ≡ got o end → o .operand ≡ x
-      operand-is c = let u = mutation-parts p (principals s) (roles s) at c in u .operand-byte ∙ ap (byte p) (sym (ahead-is p at 2 (omega arith))) ∙ cc
-
-      pub member-added : (r : Bool) → k ≡ AddMember → HoldsRight s i x r → OneAllowedAt s p at r
-      unfolding OneAllowedAt HoldsRight allowed
-      member-added r z l o end c =
-          let u = mutation-parts p (principals s) (roles s) at c in
-          rw (kind-is c ∙ ap modelKind z, role-is c, operand-is c) (l (rw (role-is c) at (u .role-fits)))
-
-      pub taken-added : (r : Bool) → k ≡ AddTaken → TakesRight s i x r → OneAllowedAt s p at r
-      unfolding OneAllowedAt TakesRight allowed
-      taken-added r z l o′ end c =
-          let u = mutation-parts p (principals s) (roles s) at c in
-          let v = taken-fits p (principals s) (roles s) at c (kind-byte (byte p at) o d k j ∙ ap kindByte z) in
-          rw (kind-is c ∙ ap modelKind z, role-is c, operand-is c)
-          (l (rw (role-is c) at (u .role-fits)) (rw (operand-is c) at v))
+pub allowing-short : (s p : List ℕ) (n at : ℕ) (r : Bool) (m : ℕ) → at < length p → m ≡ n → length p - at < 3 * m → AllowedAt s p n at r
+unfolding AllowedAt
+allowing-short s p n at r m l k h ms end ok e = absurd (omega (arith, mutations-end p (principals s) (roles s) n at e (omega arith)))
 
 -- the answer for the `left` mutations from `here` on is the answer for all n
 module _ (s p : List ℕ) (n at : ℕ) where
@@ -309,12 +324,11 @@ module _ (s p : List ℕ) (n at : ℕ) where
           let u = many-more (readMutation p (principals s) (roles s)) left here e some in
           rw (u .is, ← (g (u .head) (u .mid) (u .head-read)), h))
 
-      pub allowing-goes-on : (next : ℕ) → r ≡ true → next ≡ ahead p here 3 → Allowing (left - 1) next
+      pub allowing-goes-on : r ≡ true → Allowing (left - 1) (here + 3)
       unfolding Allowing AllowedAt OneAllowedAt allAllowed
-      allowing-goes-on next h k b l = f b (λ ms end ok e.
+      allowing-goes-on h b l = f b (λ ms end ok e.
           let u = many-more (readMutation p (principals s) (roles s)) left here e some in
-          let v = mutation-parts p (principals s) (roles s) here (u .head-read) in
-          let m : u .mid ≡ next = v .ends ∙ sym (ahead-is p here 3 (v .inside)) ∙ sym k in
+          let m = mutation-parts p (principals s) (roles s) here (u .head-read) .ends in
           rw (u .is, ← (g (u .head) (u .mid) (u .head-read)), h) (l (u .tail) end ok (rw m at (u .tail-read))))
 
-pub ruleset allowings = (allowing-starts, allowing-ends, allowing-stops, allowing-goes-on, not-true, not-false)
+pub ruleset allowings = (allowing-past, allowing-short, allowing-starts, allowing-ends, allowing-stops, allowing-goes-on, not-true, not-false)

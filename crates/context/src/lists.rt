@@ -1,6 +1,7 @@
 // The lists of a transaction and of an update: which queries are listed, which roles they name, whether the policy file
 // allows what is added. Where a list was refused any answer is right, so each function takes every position.
 ghost use mathlib.Core.Path.{_≡_};
+ghost use Prim.Native.Nat.{_+_, _≤_};
 ghost use lib.ListN.{length};
 ghost use Rattle.model.specs.Policy.{Accepted};
 ghost use Rattle.order.specs.Table.{tableWords, queryOf, queryRoles};
@@ -10,8 +11,6 @@ use order::table;
 use policy::rows;
 use program::codes::Atom;
 use program::codes::AtomOf;
-use program::codes::Kind;
-use program::codes::KindOf;
 use shared::bytes;
 
 // Whether the query that stands at `at` is the one that stands at `other`: both bytes are the same.
@@ -137,36 +136,38 @@ fn may_take(policy: &[u8], role: u8, other: u8) -> bool
     )
 }
 
-// Whether the policy file allows the mutation that stands at `at`: kind, role, operand. A deletion is always allowed.
+// Whether the policy file allows the mutation that stands at `at`: kind, role, operand. Kind 00 adds a member and 02 a taken
+// role; a deletion is always allowed.
 fn is_allowed(policy: &[u8], program: &[u8], at: usize) -> bool
-    requires { ⌜ Accepted (now policy) ⌝ }
+    requires { ⌜ (Accepted (now policy)) × (at + 3 ≤ length (now program)) ⌝ }
     ensures { λ r. ⌜ OneAllowedAt (now (policy .entry)) (now (program .entry)) at r ⌝ }
 {
-    let KindOf::Is(kind) = positions::kind_at(program, at) else {
-        return false;
-    };
-    let role = bytes::byte_at(program, positions::ahead(program, at, 1));
-    let operand = bytes::byte_at(program, positions::ahead(program, at, 2));
-    match kind {
-        Kind::AddMember => may_hold(policy, role, operand),
-        Kind::DeleteMember => true,
-        Kind::AddTaken => may_take(policy, role, operand),
-        Kind::DeleteTaken => true,
+    match program[at] {
+        0 => may_hold(policy, program[at + 1], program[at + 2]),
+        2 => may_take(policy, program[at + 1], program[at + 2]),
+        _ => true,
     }
 }
 
-// Whether the policy file allows each of the n mutations that stand at `at`.
+// Whether the policy file allows each of the n mutations that stand at `at`. Where they do not lie within the bytes any answer
+// is right: with that asked once, no byte of them is asked for again.
 pub fn all_allowed(policy: &[u8], program: &[u8], n: u8, at: usize) -> bool
     requires { ⌜ Accepted (now policy) ⌝ }
     ensures { λ r. ⌜ AllowedAt (now (policy .entry)) (now (program .entry)) n at r ⌝ }
 {
+    if program.len() <= at {
+        return true;
+    }
+    if program.len() - at < positions::MUTATION_BYTES * (bytes::wide(n) as usize) {
+        return true;
+    }
     let mut left = n;
     let mut here = at;
     while 0 < left {
         if !is_allowed(policy, program, here) {
             return false;
         }
-        here = positions::ahead(program, here, positions::MUTATION_BYTES);
+        here += positions::MUTATION_BYTES;
         left -= 1;
     }
     true
