@@ -1,7 +1,7 @@
 -- A law for each return and each turn of lists.rt: the answer for what is left of a list is the answer for the whole.
 use mathlib.Core.Path.{_≡_, refl, sym, ap, subst, _∙_}
 use mathlib.Core.Logic.{⊎-elim}
-use Prim.Native.Nat.{ℕ, zero, suc, _+_, _-_, _*_, _<_, _≤_}
+use Prim.Native.Nat.{ℕ, zero, suc, _+_, _-_, _*_, _/_, _<_, _≤_}
 use mathlib.Core.List.{List}
 use mathlib.Core.Bool.{Bool, true, false, cond}
 use native.Mathlib.Omega.{arith}
@@ -29,7 +29,7 @@ use Rattle.program.proofs.CodeLaws.{atom-is, atom-some}
 use Rattle.order.specs.Table.{namedRole, queryOf, queryRoles, listRoles, DecidesQuery}
 use Rattle.gathered.specs.Positions.{ahead}
 use Rattle.gathered.proofs.PositionLaws.{ahead-is}
-use Rattle.model.proofs.Standing.{then-parts, pick-parts, either-parts, same-value, byte-parts, below-parts, many-none, many-more, query-parts, kindCode, mutation-parts, mutations-end}
+use Rattle.model.proofs.Standing.{then-parts, pick-parts, either-parts, same-value, byte-parts, below-parts, many-none, many-more, query-parts, queries-end, kindCode, mutation-parts, mutations-end}
 use Rattle.context.specs.declared.lists.QueryOf.{QueryOf}
 use Rattle.context.specs.declared.lists.QueryOf.the-variants as query
 use Rattle.context.specs.Lists.{SameAt, ListedAt, QueryNames, QueryAt, KnownAt, QueryRolesAt, ListRolesAt, HoldsRight, TakesRight, OneAllowedAt, AllowedAt}
@@ -43,8 +43,8 @@ module _ (p : List ℕ) (R at : ℕ) {k : Query} {end : ℕ} (e : readQuery p R 
   query-after = let u = query-parts p R at e in u .ends ∙ sym (ahead-is p at 2 (u .inside))
 
 -- one query against another
-module _ (p : List ℕ) (at other x a : ℕ) (e : x ≡ byte p other) (f : a ≡ byte p at) where
-  pub first-differs : (x ≡ a → ⊥) → SameAt p at other false
+module _ (p : List ℕ) (at other : ℕ) where
+  pub first-differs : (byte p other ≡ byte p at → ⊥) → SameAt p at other false
   unfolding SameAt
   first-differs h R k q end after i j =
       let u = query-parts p R at i in
@@ -52,15 +52,33 @@ module _ (p : List ℕ) (at other x a : ℕ) (e : x ≡ byte p other) (f : a ≡
       let n : atomByte (q .first) ≡ atomByte (k .first) → ⊥ = λ z. h (cc (u .first-byte, v .first-byte)) in
       simp (ne-eqb _ _ n)
 
-  pub first-same : (m y n b : ℕ) → x ≡ a → m ≡ ahead p other 1 → y ≡ byte p m → n ≡ ahead p at 1 → b ≡ byte p n → SameAt p at other (eqb y b)
+  pub first-same : byte p other ≡ byte p at → SameAt p at other (eqb (byte p (other + 1)) (byte p (at + 1)))
   unfolding SameAt
-  first-same m y n b h g₁ c₁ g₂ c₂ R k q end after i j =
+  first-same h R k q end after i j =
       let u = query-parts p R at i in
       let v = query-parts p R other j in
       let z : atomByte (q .first) ≡ atomByte (k .first) = cc (u .first-byte, v .first-byte) in
-      let s : atomByte (k .second) ≡ b = cc (query-second p R at i) in
-      let o : atomByte (q .second) ≡ y = cc (query-second p R other j) in
-      simp (eq-eqb _ _ z, s, o)
+      simp (eq-eqb _ _ z, u .second-byte, v .second-byte)
+
+-- where the query or the list does not lie within the bytes none was read there
+module _ (p : List ℕ) (at other : ℕ) where
+  pub other-past : (n : ℕ) (r : Bool) → length p ≤ other → ListedAt p n at other r
+  unfolding ListedAt
+  other-past n r h R qs q end after e i = absurd (omega (arith, query-parts p R other i .inside))
+
+  pub other-short : (n : ℕ) (r : Bool) → other < length p → length p - other < 2 → ListedAt p n at other r
+  unfolding ListedAt
+  other-short n r l h R qs q end after e i = absurd (omega (arith, query-parts p R other i .inside))
+
+  pub list-past : (n : ℕ) → length p ≤ at → ListedAt p n at other false
+  unfolding ListedAt listedIn
+  list-past zero h R qs q end after e i = rw (many-none (readQuery p R) 0 at e (omega arith) .0)
+  list-past (suc n) h R qs q end after e i =
+      let u = many-more (readQuery p R) (suc n) at e (omega arith) in absurd (omega (arith, query-parts p R at (u .head-read) .inside))
+
+  pub list-short : (n : ℕ) (r : Bool) → at < length p → (length p - at) / 2 < n → ListedAt p n at other r
+  unfolding ListedAt
+  list-short n r l h R qs q end after e i = absurd (omega (arith, queries-end p R n at e (omega arith)))
 
 -- the answer for the `left` queries from `here` on is the answer for all n
 module _ (p : List ℕ) (n at other : ℕ) where
@@ -83,14 +101,14 @@ module _ (p : List ℕ) (n at other : ℕ) where
           let u = many-more (readQuery p R) left here e some in
           rw (u .is, ← (g R (u .head) q (u .mid) after (u .head-read) i), h))
 
-      pub listing-goes-on : (next : ℕ) → r ≡ false → next ≡ ahead p here 2 → Listing (left - 1) next
+      pub listing-goes-on : r ≡ false → Listing (left - 1) (here + 2)
       unfolding Listing ListedAt SameAt listedIn
-      listing-goes-on next h k b l = f b (λ R qs q end after e i.
+      listing-goes-on h b l = f b (λ R qs q end after e i.
           let u = many-more (readQuery p R) left here e some in
-          let m : u .mid ≡ next = query-after p R here (u .head-read) ∙ sym k in
+          let m = query-parts p R here (u .head-read) .ends in
           rw (u .is, ← (g R (u .head) q (u .mid) after (u .head-read) i), h) (l R (u .tail) q end after (rw m at (u .tail-read)) i))
 
-pub ruleset listings = (listing-starts, listing-ends, listing-finds, listing-goes-on)
+pub ruleset listings = (other-past, other-short, list-past, list-short, listing-starts, listing-ends, listing-finds, listing-goes-on)
 
 -- an atom that was read names a role below the limit, by its byte
 atom-at-small : (R at x next : ℕ) {a : Atom} {end : ℕ} → atomAt R at x next ≡ got a end → AtomFits roleLimit a

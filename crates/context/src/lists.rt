@@ -15,26 +15,40 @@ use shared::bytes;
 
 // Whether the query that stands at `at` is the one that stands at `other`: both bytes are the same.
 fn is_same(program: &[u8], at: usize, other: usize) -> bool
+    requires { ⌜ (at + 2 ≤ length (now program)) × (other + 2 ≤ length (now program)) ⌝ }
     ensures { λ r. ⌜ SameAt (now (program .entry)) at other r ⌝ }
 {
-    if bytes::byte_at(program, other) != bytes::byte_at(program, at) {
+    if program[other] != program[at] {
         return false;
     }
-    bytes::byte_at(program, positions::ahead(program, other, 1))
-        == bytes::byte_at(program, positions::ahead(program, at, 1))
+    program[other + 1] == program[at + 1]
 }
 
-// Whether the query that stands at `other` is among the n queries that stand at `at`.
+// Whether the query that stands at `other` is among the n queries that stand at `at`. Where one or the others do not lie within
+// the bytes any answer is right: with that asked once, no byte of them is asked for again.
 pub fn is_listed(program: &[u8], n: u64, at: usize, other: usize) -> bool
     ensures { λ r. ⌜ ListedAt (now (program .entry)) n at other r ⌝ }
 {
+    if program.len() <= other {
+        return false;
+    }
+    if program.len() - other < positions::QUERY_BYTES {
+        return false;
+    }
+    if program.len() <= at {
+        return false;
+    }
+    let room = (program.len() - at) / positions::QUERY_BYTES;
+    if (room as u64) < n {
+        return false;
+    }
     let mut left = n;
     let mut here = at;
     while 0 < left {
         if is_same(program, here, other) {
             return true;
         }
-        here = positions::ahead(program, here, positions::QUERY_BYTES);
+        here += positions::QUERY_BYTES;
         left -= 1;
     }
     false

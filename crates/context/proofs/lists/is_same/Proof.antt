@@ -7,11 +7,11 @@ pub is-same-spec : {M : Type 1} → statement M
 is-same-spec =
     tie.close
     (tie.spec
-    (λ c κs. search needs)
-    (λ c κs. search needs)
-    (λ c. search (needs, first-differs))
-    (λ c κs. search needs)
-    (λ c κs. search needs)
-    (λ c κs. search needs)
-    (λ c κs. search needs)
-    (λ c. search (needs, first-same)))
+    (λ c. search needs)
+    (λ c. search needs)
+    (λ c. search (needs, first-differs, first-same))
+    (λ c. search needs)
+    (λ c. search needs)
+    (λ c. search needs)
+    (λ c. search needs)
+    (λ c. search (needs, first-differs, first-same)))
