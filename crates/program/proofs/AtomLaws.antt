@@ -1,12 +1,12 @@
 -- A law for each return of atoms.rt: the tests that led there say which case of the definition holds.
 use mathlib.Core.Path.{_≡_, refl, sym, _∙_}
-use Prim.Native.Nat.{ℕ, _+_, _-_, _<_, _≤_}
+use Prim.Native.Nat.{ℕ, zero, suc, _+_, _-_, _<_, _≤_}
 use mathlib.Core.List.{List}
-use mathlib.Core.Bool.{Bool, true, false, cond}
+use mathlib.Core.Bool.{Bool, true, false, cond, false≢true}
 use native.Mathlib.Omega.{arith}
 use lib.Dec.{eqb, ltb}
 use lib.ListN.{length}
-use borrow.Author.Tests.{lt-ltb, le-ltb, eq-eqb, ne-eqb}
+use borrow.Author.Tests.{lt-ltb, le-ltb, eq-eqb, ne-eqb, ltb-true}
 use Rattle.model.specs.Limits.{roleLimit}
 use Rattle.model.specs.Number.{programCode, programRange}
 use Rattle.model.specs.Bytes.{byte}
@@ -23,9 +23,10 @@ use Rattle.program.specs.declared.codes.Kind.the-variants.{AddMember, De
 use Rattle.program.specs.declared.codes.KindOf.{KindOf}
 use Rattle.program.specs.declared.codes.KindOf.the-variants as kind
 use Rattle.program.specs.Answer.{reached, stopped, placeLimit, told, endOf}
+use Rattle.program.specs.Entries.{FindsMutation}
 use Rattle.program.specs.Codes.{atomOf, modelAtom, roleBelow, kindOf, modelKind, operandBound}
 use Rattle.program.proofs.CodeLaws.{through, atom-byte, atom-fits, none-high, none-everyone}
-use Rattle.program.proofs.AnswerLaws.{tells, then-at, then-refused, then-last, byte-there, byte-missing}
+use Rattle.program.proofs.AnswerLaws.{tells, then-reached, then-at, then-refused, then-last, byte-there, byte-missing}
 
 -- a byte below a bound
 module _ (s : List ℕ) (bound at : ℕ) where
@@ -187,3 +188,48 @@ module _ (s : List ℕ) (P R at : ℕ) where
           rw (there, h) (then-at (readBelow s R (at + 1)) _ i g (λ x. rw o at j ∙ then-last (readBelow s (operandBound P R m) a) _))
 
 pub ruleset mutations = (mutation-missing, mutation-unknown, mutation-role, mutation-operand, tells)
+
+-- a mutation that is as it must be: its kind is known by its code, and what its operand stays below
+record Coded (P R x bound : ℕ) : Type 0 where
+  kind-of : Kind
+  is : kindOf x ≡ kind.Is kind-of
+  bounds : operandBound P R kind-of ≡ bound
+
+member-code : (P R x : ℕ) → x < 2 → Coded P R x P
+unfolding kindOf operandBound
+member-code P R zero h = record { kind-of = AddMember; is = refl; bounds = refl }
+member-code P R (suc zero) h = record { kind-of = DeleteMember; is = refl; bounds = refl }
+member-code P R (suc (suc x)) h = absurd (omega arith)
+
+taken-code : (P R x : ℕ) → 2 ≤ x → x < 4 → Coded P R x R
+unfolding kindOf operandBound
+taken-code P R zero h g = absurd (omega arith)
+taken-code P R (suc zero) h g = absurd (omega arith)
+taken-code P R (suc (suc zero)) h g = record { kind-of = AddTaken; is = refl; bounds = refl }
+taken-code P R (suc (suc (suc zero))) h g = record { kind-of = DeleteTaken; is = refl; bounds = refl }
+taken-code P R (suc (suc (suc (suc x)))) h g = absurd (omega arith)
+
+module _ (s : List ℕ) (P R at : ℕ) where
+  pub not-found : FindsMutation s P R at false
+  unfolding FindsMutation
+  not-found h = absurd (false≢true h)
+
+  module _ (l : at + 3 ≤ length s) (role : byte s (at + 1) < R) where
+    coded-read : (bound : ℕ) → Coded P R (byte s at) bound → byte s (at + 2) < bound → reached (at + 3) ≡ endOf (readMutation s P R at)
+    unfolding kinded mutationAt
+    coded-read bound c operand =
+        let two : at + 2 ≡ at + 1 + 1 = omega arith in
+        let three : at + 3 ≡ at + 1 + 1 + 1 = omega arith in
+        rw (three, there s P R at (omega arith) (kindOf (byte s at)) refl, c .is, c .bounds)
+        (then-reached (readBelow s R (at + 1)) _ (below-small s R (at + 1) (omega arith) role)
+        (λ x. below-small s bound (at + 1 + 1) (omega arith) (rw two at operand) ∙ then-last (readBelow s bound (at + 1 + 1)) _))
+
+    pub member-found : byte s at < 2 → FindsMutation s P R at (ltb (byte s (at + 2)) P)
+    unfolding FindsMutation
+    member-found h t = coded-read P (member-code P R (byte s at) h) (ltb-true _ _ t)
+
+    pub taken-found : 2 ≤ byte s at → byte s at < 4 → FindsMutation s P R at (ltb (byte s (at + 2)) R)
+    unfolding FindsMutation
+    taken-found h g t = coded-read R (taken-code P R (byte s at) h g) (ltb-true _ _ t)
+
+pub ruleset founds = (not-found, member-found, taken-found)

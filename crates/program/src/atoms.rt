@@ -1,9 +1,11 @@
 // Reading what statements and expressions are made of: a byte below a bound, an atom, a label, a query, a mutation.
 ghost use mathlib.Core.Path.{_≡_};
-ghost use Prim.Native.Nat.{_≤_};
+ghost use Prim.Native.Nat.{_+_, _≤_};
+ghost use lib.ListN.{length};
 ghost use Rattle.model.specs.Limits.{roleLimit};
 ghost use Rattle.model.specs.Program.{readBelow, readAtom, readLabel, readQuery, readMutation};
 ghost use Rattle.program.specs.Answer.{told, Within, endOf};
+ghost use Rattle.program.specs.Entries.{FindsMutation};
 use super::answer;
 use super::codes;
 use super::codes::Atom;
@@ -99,4 +101,19 @@ pub fn read_mutation(program: &[u8], principals: u8, roles: u8, at: usize) -> u6
         codes::operand_bound(kind, principals, roles),
         role as usize,
     )
+}
+
+// Whether the three bytes at `at` are a mutation. Kinds 00 and 01 have a principal, 02 and 03 a role.
+pub fn is_mutation(program: &[u8], principals: u8, roles: u8, at: usize) -> bool
+    requires { ⌜ at + 3 ≤ length (now program) ⌝ }
+    ensures { λ r. ⌜ FindsMutation (now (program .entry)) principals roles at r ⌝ }
+{
+    if roles <= program[at + 1] {
+        return false;
+    }
+    match program[at] {
+        0..=1 => program[at + 2] < principals,
+        2..=3 => program[at + 2] < roles,
+        _ => false,
+    }
 }

@@ -171,7 +171,7 @@ fn read_update(program: &[u8], principals: u8, roles: u8, at: usize) -> u64
     if limit::LIST < n {
         return answer::refused(number::PROGRAM_RANGE, at);
     }
-    entries::read_entries(&program[..], principals, roles, Entry::Mutation, n, at + 1)
+    entries::read_mutations(&program[..], principals, roles, n, at + 1)
 }
 
 // n, n atom pairs, a statement; n is 0 to 16.
