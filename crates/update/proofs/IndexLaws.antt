@@ -18,10 +18,11 @@ use Rattle.model.specs.Policy.{roles, principals, members, takes, HasRow, Accep
 use Rattle.model.proofs.Accepted.{accepted-facts}
 use Rattle.model.proofs.Below.{last-or}
 use Rattle.model.proofs.Rows.{accepted-row}
-use Rattle.model.proofs.Sets.{has-zero, not-in, in-not, in-none, has-or-l, has-or-r, or-has, has-below, has-with-same, has-with, with-has, has-without, without-has}
+use Rattle.model.proofs.Sets.{has-zero, not-in, in-not, in-none, has-or-l, has-or-r, or-has, has-below, power-is, power-in, has-with-same, has-with, with-has, has-without, without-has}
 use Rattle.model.proofs.Truth.{true-or-false}
-use Rattle.shared.proofs.SetLaws.{next-without, fewer}
-use Rattle.update.specs.Index.{holdersAt, staleAt, indexWords, SetInside, Entered, Transposed, Loaded, placed, Turned}
+use Rattle.shared.specs.Words.{single}
+use Rattle.shared.proofs.SetLaws.{single-is, next-without, fewer}
+use Rattle.update.specs.Index.{holdersAt, staleAt, knownAt, aboveAt, indexWords, SetInside, Entered, Transposed, Loaded, placed, Turned, Upward, Reaching, Known, Learnt}
 
 -- i is put into the words of `set` that are not in `rest`
 pub record Entering (from set rest i : ℕ) (w u : List ℕ) : Type 0 where
@@ -190,6 +191,7 @@ module _ (s w : List ℕ) (ok : Accepted s) where
       holders = none (members s) holdersAt principalLimit (omega arith);
     };
     none-stale = zero-at staleAt (omega arith);
+    none-known = zero-at knownAt (omega arith);
   }
     where
       zero-at : (k : ℕ) → k < indexWords → getD w k 0 ≡ 0
@@ -214,7 +216,8 @@ module _ (s w : List ℕ) (ok : Accepted s) where
         holders = transposed-more (members s) holdersAt principalLimit n u v
             (transposed-kept (members s) holdersAt principalLimit n w u (h .indexed .holders) (members s) (λ i j k. refl) (λ j k. f .others (holdersAt + j) (λ y p q. omega (arith, taken-small s ok c n ec l y p)))) g;
       };
-      none-stale = g .others staleAt (λ y p q. omega (arith, member-small s ok c n ec l y p)) ∙ f .others staleAt (λ y p q. omega (arith, taken-small s ok c n ec l y p)) ∙ h .none-stale;
+      none-stale = behind staleAt (omega arith) ∙ h .none-stale;
+      none-known = behind knownAt (omega arith) ∙ h .none-known;
     }
       where
         f : Entered 0 (takes s n) n w u
@@ -222,6 +225,9 @@ module _ (s w : List ℕ) (ok : Accepted s) where
 
         g : Entered holdersAt (members s n) n u v
         g = rw em at b
+
+        behind : (k : ℕ) → staleAt ≤ k → getD v k 0 ≡ getD w k 0
+        behind k b = g .others k (λ y p q. omega (arith, member-small s ok c n ec l y p)) ∙ f .others k (λ y p q. omega (arith, taken-small s ok c n ec l y p))
 
     pub loaded-done : (c : ℕ) → c ≡ roles s → n ≤ c → c ≤ n → Loaded s (roles s) w
     loaded-done c e l k = let q : roles s ≡ n = omega arith in rw q h
@@ -248,27 +254,156 @@ module _ (k i : ℕ) (present : Bool) (more : ℕ) (w : List ℕ) (v : ℕ) (e :
     still-stale = λ p h. h;
     now-stale = λ p h n. absurd (n (ap (λ (x : ℕ). has x i) (sym q ∙ e) ∙ placed-same (getD w k 0) i present));
     only-stale = λ p h n. in-not (getD w staleAt 0) p h n;
+    known = λ j h. (h, λ l. refl);
+    above = λ m l. refl;
   }
 
   module _ (long : length w ≡ indexWords) (l : k < staleAt) where
     pub turned-inside : staleAt < length (set w k v)
     turned-inside = rw length-set (omega arith)
 
-    pub turned-so : (x : ℕ) → x ≡ getD (set w k v) staleAt 0 → Turned k i present more w (set (set w k v) staleAt (bitOr x more))
-    turned-so x ex = record {
-      long = length-set (set w k v) staleAt _ ∙ length-set w k v;
-      word = getD-set-other (set w k v) staleAt k _ 0 (λ q. omega arith) ∙ getD-set-same w k v 0 (omega arith) ∙ e;
-      others = λ m b n. getD-set-other (set w k v) staleAt m _ 0 (λ q. omega arith) ∙ getD-set-other w k m v 0 n;
-      still-stale = λ p h. rw now (has-or-l (getD w staleAt 0) more p h);
-      now-stale = λ p h n. rw now (has-or-r (getD w staleAt 0) more p h);
-      only-stale = λ p h n. ⊎-elim (λ y. in-not (getD w staleAt 0) p y n) (λ y. y) (or-has (getD w staleAt 0) more p (rw now at h));
-    }
-      where
-        now : getD (set (set w k v) staleAt (bitOr x more)) staleAt 0 ≡ bitOr (getD w staleAt 0) more
-        now = getD-set-same (set w k v) staleAt _ 0 turned-inside ∙ ap (λ (y : ℕ). bitOr y more) (ex ∙ getD-set-other w k staleAt v 0 (λ q. omega arith))
+    module _ (x : ℕ) (ex : x ≡ getD (set w k v) staleAt 0) where
+      abbrev turned : List ℕ
+      turned = set (set w k v) staleAt (bitOr x more)
 
-pub ruleset turnings = (turned-not, turned-inside, turned-so)
+      -- whatever becomes of what is known
+      turned-by : (u : List ℕ) → length u ≡ length turned → ((m : ℕ) → (m ≡ knownAt → ⊥) → getD u m 0 ≡ getD turned m 0)
+          → ((j : ℕ) → has (getD u knownAt 0) j ≡ true → (has (getD w knownAt 0) j ≡ true) × (roleLimit ≤ k)) → Turned k i present more w u
+      turned-by u same-long same known = record {
+        long = same-long ∙ length-set (set w k v) staleAt _ ∙ length-set w k v;
+        word = same k (λ q. omega arith) ∙ getD-set-other (set w k v) staleAt k _ 0 (λ q. omega arith) ∙ getD-set-same w k v 0 (omega arith) ∙ e;
+        others = λ m b n. same m (λ q. omega arith) ∙ getD-set-other (set w k v) staleAt m _ 0 (λ q. omega arith) ∙ getD-set-other w k m v 0 n;
+        still-stale = λ p h. rw now (has-or-l (getD w staleAt 0) more p h);
+        now-stale = λ p h n. rw now (has-or-r (getD w staleAt 0) more p h);
+        only-stale = λ p h n. ⊎-elim (λ y. in-not (getD w staleAt 0) p y n) (λ y. y) (or-has (getD w staleAt 0) more p (rw now at h));
+        known = λ j h. let (a, b) = known j h in (a, λ c. absurd (omega arith));
+        above = λ m b. same m (λ q. omega arith) ∙ getD-set-other (set w k v) staleAt m _ 0 (λ q. omega arith) ∙ getD-set-other w k m v 0 (λ q. omega arith);
+      }
+        where
+          now : getD u staleAt 0 ≡ bitOr (getD w staleAt 0) more
+          now = same staleAt (λ q. omega arith) ∙ getD-set-same (set w k v) staleAt _ 0 turned-inside ∙ ap (λ (y : ℕ). bitOr y more) (ex ∙ getD-set-other w k staleAt v 0 (λ q. omega arith))
+
+      pub turned-member : roleLimit ≤ k → Turned k i present more w (set (set w k v) staleAt (bitOr x more))
+      turned-member b = turned-by turned refl (λ m n. refl)
+          (λ j h. (ap (λ (y : ℕ). has y j) (sym (getD-set-other (set w k v) staleAt knownAt _ 0 (λ q. omega arith) ∙ getD-set-other w k knownAt v 0 (λ q. omega arith))) ∙ h, b))
+
+      pub known-inside : knownAt < length (set (set w k v) staleAt (bitOr x more))
+      known-inside = rw (length-set, length-set) (omega arith)
+
+      pub turned-taken : Turned k i present more w (set (set (set w k v) staleAt (bitOr x more)) knownAt 0)
+      turned-taken = turned-by (set turned knownAt 0) (length-set turned knownAt 0) (λ m n. getD-set-other turned knownAt m 0 0 n)
+          (λ j h. in-none j (rw (getD-set-same turned knownAt 0 0 known-inside) at h))
+
+pub ruleset turnings = (turned-not, turned-inside, known-inside, turned-member, turned-taken)
 
 -- the word is found by the number that it is kept for
 pub turned-at : (k k₁ i i₁ : ℕ) (present : Bool) (more more₁ : ℕ) (w u : List ℕ) → k ≡ k₁ → i ≡ i₁ → more ≡ more₁ → Turned k i present more w u → Turned k₁ i₁ present more₁ w u
 turned-at k k₁ i i₁ present more more₁ w u e f g h = rw (e, f, g) at h
+
+-- what is reached upwards depends on the words of those that take in only
+reaching-kept : (w u : List ℕ) (start r : ℕ) → ((j : ℕ) → j < roleLimit → getD u j 0 ≡ getD w j 0) → Reaching w start r → Reaching u start r
+reaching-kept w u start r e h = record {
+  starts = h .starts;
+  upward = record {
+    closed = λ j i l p m. h .upward .closed j i l p (rw (e j l) at m);
+    least = λ H f g i p. h .upward .least H f (λ j k l q m. g j k l q (rw (e j l) m)) i p;
+  };
+}
+
+-- what is known stays so where these words are the same
+pub known-kept : (w u : List ℕ) → Known w (getD w knownAt 0) → ((j : ℕ) → has (getD u knownAt 0) j ≡ true → (has (getD w knownAt 0) j ≡ true) × ((k : ℕ) → k < roleLimit → getD u k 0 ≡ getD w k 0))
+    → ((m : ℕ) → knownAt < m → getD u m 0 ≡ getD w m 0) → Known u (getD u knownAt 0)
+unfolding Known
+known-kept w u h f a j m = let (b, c) = f j m in rw (a (aboveAt + j) (omega arith)) (reaching-kept w u _ _ c (h j b))
+
+pub none-known : (w : List ℕ) → getD w knownAt 0 ≡ 0 → Known w (getD w knownAt 0)
+unfolding Known
+none-known w e j m = in-none j (rw e at m)
+
+-- the word of one more role
+module _ (w : List ℕ) (j above : ℕ) (long : length w ≡ indexWords) (l : j < roleLimit) where
+  pub noted-inside : knownAt < length (set w (aboveAt + j) above)
+  noted-inside = rw length-set (omega arith)
+
+  pub learnt-noted : Known w (getD w knownAt 0) → Reaching w (single j) above → (x v : ℕ) → x ≡ getD (set w (aboveAt + j) above) knownAt 0 → v ≡ with x j
+      → Learnt w (set (set w (aboveAt + j) above) knownAt v)
+  unfolding Known
+  learnt-noted known r x v ex ev = record { long = length-set mid knownAt v ∙ length-set w (aboveAt + j) above; same = same; known = λ i m. go i m (ℕ-discrete i j) }
+    where
+      mid : List ℕ
+      mid = set w (aboveAt + j) above
+
+      u : List ℕ
+      u = set mid knownAt v
+
+      same : (k : ℕ) → k < knownAt → getD u k 0 ≡ getD w k 0
+      same k b = getD-set-other mid knownAt k v 0 (λ q. omega arith) ∙ getD-set-other w (aboveAt + j) k above 0 (λ q. omega arith)
+
+      kept : (start a : ℕ) → Reaching w start a → Reaching u start a
+      kept start a = reaching-kept w u start a (λ k b. same k (omega arith))
+
+      is : getD u knownAt 0 ≡ with (getD w knownAt 0) j
+      is = getD-set-same mid knownAt v 0 noted-inside ∙ ev ∙ ap (λ (y : ℕ). with y j) (ex ∙ getD-set-other w (aboveAt + j) knownAt above 0 (λ q. omega arith))
+
+      go : (i : ℕ) → has (getD u knownAt 0) i ≡ true → Dec (i ≡ j) → Reaching u (single i) (getD u (aboveAt + i) 0)
+      go i m (yes e) = rw (e, getD-set-other mid knownAt (aboveAt + j) v 0 (λ q. omega arith), getD-set-same w (aboveAt + j) above 0 (omega arith)) (kept (single j) above r)
+      go i m (no d) =
+          rw (getD-set-other mid knownAt (aboveAt + i) v 0 (λ q. omega arith), getD-set-other w (aboveAt + j) (aboveAt + i) above 0 (λ q. d (omega arith)))
+          (kept (single i) (getD w (aboveAt + i) 0) (known i (⊎-elim (λ e. absurd (d e)) (λ h. h) (with-has (getD w knownAt 0) j i (rw is at m)))))
+
+pub ruleset notings = (noted-inside, learnt-noted)
+
+-- the words of the roles in `start` that are not in `rest` are put together
+pub record Gathering (w : List ℕ) (start rest seen : ℕ) : Type 0 where
+  pub in-rest : (i : ℕ) → has rest i ≡ true → has start i ≡ true
+  pub starts : (i : ℕ) → has start i ≡ true → has rest i ≡ false → has seen i ≡ true
+  pub upward : Upward w start seen
+
+pub none-upward : (w : List ℕ) (start : ℕ) → Upward w start 0
+none-upward w start = record { closed = λ j i l h m. in-none j h; least = λ H f g i h. in-none i h }
+
+pub gathering-start : (w : List ℕ) (start : ℕ) → Gathering w start start 0
+gathering-start w start = record { in-rest = λ i h. h; starts = λ i h n. in-not start i h n; upward = none-upward w start }
+
+-- what one of some leads to they all do
+pub one-upward : (w : List ℕ) (start j one : ℕ) → j < roleLimit → has start j ≡ true → Reaching w (single j) one → Upward w start one
+one-upward w start j one l m h = record {
+  closed = h .upward .closed;
+  least = λ H f g. h .upward .least H (λ i p. let e = power-is j i (rw (single-is j l) at p) in rw e (f j m)) g;
+}
+
+module _ (w : List ℕ) (start rest seen : ℕ) (h : Gathering w start rest seen) where
+  pub gathering-more : (j next : ℕ) → Known w start → j ≡ trailingZeros 64 rest → has rest j ≡ true → j < roleLimit → next ≡ without rest (trailingZeros 64 rest)
+      → Gathering w start next (bitOr seen (getD w (aboveAt + j) 0))
+  unfolding Known
+  gathering-more j next known ej m l en = record {
+    in-rest = λ i p. h .in-rest i (without-has rest j i (rw is at p) .0);
+    starts = λ i p n. go i p n (ℕ-discrete i j);
+    upward = record {
+      closed = λ k i b p q. ⊎-elim
+          (λ y. has-or-l seen word i (h .upward .closed k i b y q))
+          (λ y. has-or-r seen word i (own .closed k i b y q)) (or-has seen word k p);
+      least = λ H f g i p. ⊎-elim (h .upward .least H f g i) (own .least H f g i) (or-has seen word i p);
+    };
+  }
+    where
+      word : ℕ
+      word = getD w (aboveAt + j) 0
+
+      is : next ≡ without rest j
+      is = next-without rest j next ej en
+
+      reached : Reaching w (single j) word
+      reached = known j (h .in-rest j m)
+
+      own : Upward w start word
+      own = one-upward w start j word l (h .in-rest j m) reached
+
+      go : (i : ℕ) → has start i ≡ true → has next i ≡ false → Dec (i ≡ j) → has (bitOr seen word) i ≡ true
+      go i p n (yes e) = rw e (has-or-r seen word j (reached .starts j (rw (single-is j l) (power-in j))))
+      go i p n (no d) = has-or-l seen word i (h .starts i p (not-in rest i (λ y. in-not next i (rw is (has-without rest j i y d)) n)))
+
+  pub gathering-done : rest ≤ 0 → Reaching w start seen
+  gathering-done z = let e : rest ≡ 0 = omega arith in record { starts = λ i p. h .starts i p (rw e (has-zero i)); upward = h .upward }
+
+pub ruleset gatherings = (fewer, gathering-start, gathering-more, gathering-done)

@@ -10,7 +10,7 @@ use native.Mathlib.Decide.{ℕ-discrete}
 use native.Mathlib.Nat.{lt-of-le-of-lt}
 use mir.Val.{Fits}
 use mir.Syntax.{w32}
-use lib.Bits.{bitOr, bitXor, xor-zero-r}
+use lib.Bits.{bitAnd, bitOr, bitXor}
 use lib.Count.{trailingZeros}
 use lib.ListN.{length, getD, set, length-set}
 use lib.Seq.{getD-set-same, getD-set-other}
@@ -24,32 +24,30 @@ use Rattle.model.specs.Meaning.{meaning}
 use Rattle.model.proofs.Accepted.{accepted-facts}
 use Rattle.model.proofs.Below.{last-or}
 use Rattle.model.proofs.Least.{meaning-closed, meaning-least}
-use Rattle.model.proofs.Sets.{has-zero, not-in, in-not, in-none, has-or-l, has-or-r, or-has, or-grows, has-below, power-in, with-has, with-below, has-without, without-has, without-le, xor-has, xor-none, same-sets}
+use Rattle.model.proofs.Sets.{has-zero, not-in, in-not, in-none, has-or-l, has-or-r, or-has, and-has, or-grows, has-below, power-in, with-has, with-below, has-without, without-has, without-le, xor-has, xor-none, same-sets}
 use Rattle.model.proofs.Truth.{same-truth}
+use Rattle.shared.specs.Words.{single}
 use Rattle.shared.proofs.SetLaws.{next-without, fewer}
 use Rattle.update.specs.Live.{atomWords, FixedLive}
-use Rattle.update.specs.Index.{holdersAt, staleAt, indexWords, Indexed, placed, Fresh, FewStale, Tracked, Settled, Reaching, Spread}
-use Rattle.update.proofs.IndexLaws.{count-is, placed-same, placed-other, transposed-kept}
+use Rattle.update.specs.Index.{holdersAt, staleAt, knownAt, indexWords, Indexed, placed, Fresh, FewStale, Upward, Reaching, Known, Learnt, Tracked, Settled, Spread}
+use Rattle.update.proofs.IndexLaws.{count-is, placed-same, placed-other, transposed-kept, known-kept, none-upward, one-upward}
 use Rattle.update.proofs.AtomLaws.{behind}
 
 -- how far a search upwards has come: with the roles that are done, all that take them in are seen
 pub record Climbing (w : List ℕ) (start seen done : ℕ) : Type 0 where
   pub starts : (i : ℕ) → has start i ≡ true → has seen i ≡ true
   pub done-seen : (i : ℕ) → has done i ≡ true → has seen i ≡ true
-  pub done-closed : (j i : ℕ) → has done j ≡ true → has (getD w j 0) i ≡ true → has seen i ≡ true
+  pub done-closed : (j i : ℕ) → j < roleLimit → has done j ≡ true → has (getD w j 0) i ≡ true → has seen i ≡ true
   pub least : (H : ℕ → Bool) → ((i : ℕ) → has start i ≡ true → H i ≡ true) → ((j i : ℕ) → j < roleLimit → H j ≡ true → has (getD w j 0) i ≡ true → H i ≡ true)
       → (i : ℕ) → has seen i ≡ true → H i ≡ true
 
-pub climbing-start : (w : List ℕ) (start : ℕ) → Climbing w start start 0
-climbing-start w start = record {
-  starts = λ i h. h;
-  done-seen = λ i h. in-none i h;
-  done-closed = λ j i h m. in-none j h;
-  least = λ H f g i h. f i h;
+pub climbing-start : (w : List ℕ) (start found : ℕ) → Upward w start found → Climbing w start (bitOr start found) found
+climbing-start w start found h = record {
+  starts = λ i p. has-or-l start found i p;
+  done-seen = λ i p. has-or-r start found i p;
+  done-closed = λ j i l p m. has-or-r start found i (h .closed j i l p m);
+  least = λ H f g i p. ⊎-elim (f i) (h .least H f g i) (or-has start found i p);
 }
-
-pub none-done : (start : ℕ) → start ≡ bitXor start 0
-none-done start = sym (xor-zero-r start)
 
 module _ (w : List ℕ) (start seen done left : ℕ) (e : left ≡ bitXor seen done) (h : Climbing w start seen done) where
   module _ (j : ℕ) (m : has left j ≡ true) (small : j < roleLimit) where
@@ -60,9 +58,9 @@ module _ (w : List ℕ) (start seen done left : ℕ) (e : left ≡ bitXor seen d
     climbing-more next n = rw n (record {
       starts = λ i p. has-or-l seen (getD w j 0) i (h .starts i p);
       done-seen = λ i p. has-or-l seen (getD w j 0) i (⊎-elim (λ q. rw q (here .0)) (h .done-seen i) (with-has done j i p));
-      done-closed = λ k i p q. ⊎-elim
+      done-closed = λ k i l p q. ⊎-elim
           (λ f. has-or-r seen (getD w j 0) i (rw f at q))
-          (λ f. has-or-l seen (getD w j 0) i (h .done-closed k i f q)) (with-has done j k p);
+          (λ f. has-or-l seen (getD w j 0) i (h .done-closed k i l f q)) (with-has done j k p);
       least = λ H f g i p. ⊎-elim (h .least H f g i) (λ q. g j i small (h .least H f g j (here .0)) q) (or-has seen (getD w j 0) i p);
     })
 
@@ -72,9 +70,26 @@ module _ (w : List ℕ) (start seen done left : ℕ) (e : left ≡ bitXor seen d
   pub climbing-done : left ≤ 0 → Reaching w start seen
   climbing-done z =
       let q : seen ≡ done = xor-none seen done (omega arith) in
-      record { starts = h .starts; closed = λ j i p m. h .done-closed j i (rw q at p) m; least = h .least }
+      record { starts = h .starts; upward = record { closed = λ j i l p m. h .done-closed j i l (rw q at p) m; least = h .least } }
 
-pub ruleset climbings = (climbing-start, none-done, climbing-more, climbing-less, climbing-done)
+pub ruleset climbings = (climbing-start, climbing-more, climbing-less, climbing-done)
+
+-- the roles in `start` that are not known
+module _ (w : List ℕ) (start known : ℕ) (e : known ≡ getD w knownAt 0) where
+  pub all-known : Known w (getD w knownAt 0) → bitXor start (bitAnd start known) ≡ 0 → Known w start
+  unfolding Known
+  all-known h z j m = h j (rw e at (and-has start known j (rw (← xor-none start (bitAnd start known) z) m) .1))
+
+  pub first-upward : (j one : ℕ) → has (bitXor start (bitAnd start known)) j ≡ true → j < roleLimit → Reaching w (single j) one → Upward w start one
+  first-upward j one m l = one-upward w start j one l (xor-has start (bitAnd start known) j (λ p. and-has start known j p .0) m .0)
+
+pub learnt-nothing : (w : List ℕ) → Known w (getD w knownAt 0) → Learnt w w
+learnt-nothing w h = record { long = refl; same = λ k l. refl; known = h }
+
+pub single-reaching : (w : List ℕ) (j x one : ℕ) → x ≡ single j → Reaching w x one → Reaching w (single j) one
+single-reaching w j x one e h = rw e at h
+
+pub ruleset reachings = (all-known, none-upward, first-upward, learnt-nothing, single-reaching)
 
 -- one principal in or out of the sets, role by role
 module _ (among p : ℕ) (w : List ℕ) where
@@ -113,7 +128,7 @@ module _ (s w : List ℕ) (ok : Accepted s) (h : Indexed s (roles s) w) (p among
   few = accepted-facts s ok .roles-fit
 
   among-means : (r : ℕ) → has among r ≡ true → has (meaning s r) p ≡ true
-  among-means = g .least (λ r. has (meaning s r) p)
+  among-means = g .upward .least (λ r. has (meaning s r) p)
       (λ i m. let b = h .holders .below p i l m in meaning-closed s .own i p b (sym (h .holders .same p i l b) ∙ m))
       (λ j i k q m.
       let z : 0 + j ≡ j = omega arith in
@@ -128,11 +143,19 @@ module _ (s w : List ℕ) (ok : Accepted s) (h : Indexed s (roles s) w) (p among
     taken = λ i j q b c t f e.
         let z : 0 + j ≡ j = omega arith in
         let n : has (getD w (0 + j) 0) i ≡ true = h .takers .same j i (omega (arith, few)) b ∙ t in
-        g .closed j i (f e) (rw z at n);
+        g .upward .closed j i (omega (arith, few)) (f e) (rw z at n);
   }) r p m refl
 
   pub among-is : (r : ℕ) → has among r ≡ has (meaning s r) p
   among-is r = same-truth (has among r) (has (meaning s r) p) (among-means r) (means-among r)
+
+-- the words of a policy stay those where they are the same
+indexed-kept : (s : List ℕ) (n : ℕ) (w u : List ℕ) → Indexed s n w → length u ≡ length w → ((k : ℕ) → k < staleAt → getD u k 0 ≡ getD w k 0) → Indexed s n u
+indexed-kept s n w u h long kept = record {
+  long = long ∙ h .long;
+  takers = transposed-kept (takes s) 0 roleLimit n w u (h .takers) (takes s) (λ i j k. refl) (λ j l. kept (0 + j) (omega arith));
+  holders = transposed-kept (members s) holdersAt principalLimit n w u (h .holders) (members s) (λ i j k. refl) (λ j l. kept (holdersAt + j) (omega arith));
+}
 
 -- the sets are right for all but the stale principals that are left
 pub record Settling (s atoms w : List ℕ) (stale : ℕ) : Type 0 where
@@ -140,11 +163,12 @@ pub record Settling (s atoms w : List ℕ) (stale : ℕ) : Type 0 where
   pub indexed : Indexed s (roles s) w
   pub few-stale : FewStale stale
   pub fresh : Fresh s atoms stale
+  pub known : Known w (getD w knownAt 0)
 
-settled-from : (s atoms w : List ℕ) → FixedLive s atoms → Indexed s (roles s) w → getD w staleAt 0 ≡ 0 → Fresh s atoms 0 → Settled s atoms w
+settled-from : (s atoms w : List ℕ) → FixedLive s atoms → Indexed s (roles s) w → getD w staleAt 0 ≡ 0 → Fresh s atoms 0 → Known w (getD w knownAt 0) → Settled s atoms w
 unfolding Fresh FewStale atomSet
-settled-from s atoms w f i z h = record {
-  tracked = record { fixed-live = f; indexed = i; few-stale = λ p m. in-none p (rw z at m); fresh = rw z h };
+settled-from s atoms w f i z h k = record {
+  tracked = record { fixed-live = f; indexed = i; few-stale = λ p m. in-none p (rw z at m); fresh = rw z h; known = k };
   live = record { accepted = f .accepted; long = f .long; sets = sets };
 }
   where
@@ -157,10 +181,10 @@ module _ (s atoms w : List ℕ) where
   tracked-long h = h .indexed .long
 
   pub settled-already : Tracked s atoms w → (x : ℕ) → x ≡ getD w staleAt 0 → x ≡ 0 → Settled s atoms w
-  settled-already h x e z = settled-from s atoms w (h .fixed-live) (h .indexed) (sym e ∙ z) (rw (sym e ∙ z) at (h .fresh))
+  settled-already h x e z = settled-from s atoms w (h .fixed-live) (h .indexed) (sym e ∙ z) (rw (sym e ∙ z) at (h .fresh)) (h .known)
 
   pub settling-start : Tracked s atoms w → (x : ℕ) → x ≡ getD w staleAt 0 → Settling s atoms w x
-  settling-start h x e = rw e record { fixed-live = h .fixed-live; indexed = h .indexed; few-stale = h .few-stale; fresh = h .fresh }
+  settling-start h x e = rw e record { fixed-live = h .fixed-live; indexed = h .indexed; few-stale = h .few-stale; fresh = h .fresh; known = h .known }
 
   module _ (stale : ℕ) (h : Settling s atoms w stale) where
     pub settling-few : (p : ℕ) → has stale p ≡ true → p < principalLimit
@@ -173,21 +197,25 @@ module _ (s atoms w : List ℕ) where
     pub settling-long : length w ≡ indexWords
     settling-long = h .indexed .long
 
+    pub settling-known : Known w (getD w knownAt 0)
+    settling-known = h .known
+
     pub settling-atoms : length atoms ≡ atomWords
     settling-atoms = h .fixed-live .long
 
-    pub settling-more : (count p start among next : ℕ) (atoms₁ : List ℕ) → count ≡ roles s → p ≡ trailingZeros 64 stale → has stale p ≡ true → start ≡ getD w (holdersAt + p) 0
-        → Reaching w start among → Spread count among p atoms atoms₁ → next ≡ without stale (trailingZeros 64 stale) → Settling s atoms₁ w next
+    pub settling-more : (count p start among next : ℕ) (atoms₁ w₁ : List ℕ) → count ≡ roles s → p ≡ trailingZeros 64 stale → has stale p ≡ true → start ≡ getD w (holdersAt + p) 0
+        → Learnt w w₁ → Reaching w start among → Spread count among p atoms atoms₁ → next ≡ without stale (trailingZeros 64 stale) → Settling s atoms₁ w₁ next
     unfolding Fresh FewStale
-    settling-more count p start among next atoms₁ ec ep m es g d en = record {
+    settling-more count p start among next atoms₁ w₁ ec ep m es new g d en = record {
       fixed-live = record {
         accepted = ok;
         long = d .long ∙ h .fixed-live .long;
         sets = λ f l. d .outside (atomByte (fixed f)) (omega (arith, behind (roles s) (accepted-facts s ok .roles-fit) f)) ∙ h .fixed-live .sets f l;
       };
-      indexed = h .indexed;
+      indexed = indexed-kept s (roles s) w w₁ (h .indexed) (new .long) (λ k l. new .same k (omega arith));
       few-stale = λ q n. h .few-stale q (without-has stale p q (rw is at n) .0);
       fresh = λ r q l n. go r q l n (ℕ-discrete q p);
+      known = new .known;
     }
       where
         ok : Accepted s
@@ -205,11 +233,9 @@ module _ (s atoms w : List ℕ) where
     pub settling-done : stale ≤ 0 → (w₁ : List ℕ) → w₁ ≡ set w staleAt 0 → Settled s atoms w₁
     settling-done z w₁ e =
         let n : stale ≡ 0 = omega arith in
-        let kept : (k : ℕ) → k < staleAt → getD w₁ k 0 ≡ getD w k 0 = λ k l. rw e (getD-set-other w staleAt k 0 0 (λ q. omega arith)) in
-        settled-from s atoms w₁ (h .fixed-live) (record {
-          long = rw e (length-set w staleAt 0 ∙ h .indexed .long);
-          takers = transposed-kept (takes s) 0 roleLimit (roles s) w w₁ (h .indexed .takers) (takes s) (λ i j k. refl) (λ j l. kept (0 + j) (omega arith));
-          holders = transposed-kept (members s) holdersAt principalLimit (roles s) w w₁ (h .indexed .holders) (members s) (λ i j k. refl) (λ j l. kept (holdersAt + j) (omega arith));
-        }) (rw e (getD-set-same w staleAt 0 0 (omega (arith, h .indexed .long)))) (rw n at (h .fresh))
+        let kept : (k : ℕ) → (k ≡ staleAt → ⊥) → getD w₁ k 0 ≡ getD w k 0 = λ k d. rw e (getD-set-other w staleAt k 0 0 d) in
+        settled-from s atoms w₁ (h .fixed-live) (indexed-kept s (roles s) w w₁ (h .indexed) (rw e (length-set w staleAt 0)) (λ k l. kept k (λ q. omega arith)))
+        (rw e (getD-set-same w staleAt 0 0 (omega (arith, h .indexed .long)))) (rw n at (h .fresh))
+        (known-kept w w₁ (h .known) (λ j m. (rw (← kept knownAt (λ q. omega arith)) m, λ k l. kept k (λ q. omega arith))) (λ k l. kept k (λ q. omega arith)))
 
-pub ruleset settlings = (fewer, count-is, settled-already, settling-start, settling-few, settling-roles, settling-long, settling-atoms, tracked-long, settling-more, settling-done)
+pub ruleset settlings = (fewer, count-is, settled-already, settling-start, settling-few, settling-roles, settling-long, settling-known, settling-atoms, tracked-long, settling-more, settling-done)

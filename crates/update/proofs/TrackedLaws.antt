@@ -25,9 +25,9 @@ use Rattle.model.proofs.Truth.{true-or-false}
 use Rattle.shared.specs.Words.{single}
 use Rattle.shared.proofs.SetLaws.{single-is}
 use Rattle.update.specs.Live.{Live}
-use Rattle.update.specs.Index.{holdersAt, staleAt, Loaded, placed, Turned, Noted, Fresh, FewStale, Tracked}
+use Rattle.update.specs.Index.{holdersAt, staleAt, knownAt, Loaded, placed, Turned, Noted, Fresh, FewStale, Tracked}
 use Rattle.update.proofs.AtomLaws.{fixed-of, fixed-stays}
-use Rattle.update.proofs.IndexLaws.{placed-same, placed-other, same-or-not, transposed-kept, transposed-turned}
+use Rattle.update.proofs.IndexLaws.{placed-same, placed-other, same-or-not, transposed-kept, transposed-turned, known-kept, none-known}
 
 -- when a run begins no place is stale
 pub tracked-loaded : (s atoms w : List ℕ) → Live s atoms → Loaded s (roles s) w → Tracked s atoms w
@@ -37,6 +37,7 @@ tracked-loaded s atoms w live l = record {
   indexed = l .indexed;
   few-stale = λ p m. in-none p (rw (l .none-stale) at m);
   fresh = λ r p k n. ap (λ (x : ℕ). has x p) (live .sets (role r) k);
+  known = none-known w (l .none-known);
 }
 
 -- whoever a role means is a principal
@@ -100,6 +101,7 @@ module _ (s t atoms w u : List ℕ) (r x : ℕ) (present : Bool) (h : Tracked s 
       fresh = λ i p l n.
           h .fresh i p (rw (fixed .same-roles) l) (was-fresh (holdersAt + x) (single x) g p n)
           ∙ sym (column-stays s t p (fixed .same-roles) (members-alike p n) (λ a b c d e. ap (λ (y : ℕ). has y b) (takes-alike a)) i);
+      known = known-kept w u (h .known) (λ j m. (g .known j m .0, λ k l. g .others k (omega arith) (λ e. omega arith))) (g .above);
     }
 
   -- a taken role comes or goes
@@ -133,6 +135,11 @@ module _ (s t atoms w u : List ℕ) (r x : ℕ) (present : Bool) (h : Tracked s 
             (λ a. in-not (getD u staleAt 0) p (g .now-stale p (means (rw q at m)) a) n)
             (same-or-not (has (getD w x 0) r) present)
 
+    -- where anything is still known no role came or went
+    takers-kept : (j : ℕ) → has (getD u knownAt 0) j ≡ true → (k : ℕ) → k < roleLimit → Dec (k ≡ x) → getD u k 0 ≡ getD w k 0
+    takers-kept j m k l (yes e) = rw e (g .known j m .1 (omega (arith, few)))
+    takers-kept j m k l (no d) = g .others k (omega arith) d
+
     pub tracked-taken : Tracked t atoms u
     unfolding Fresh FewStale
     tracked-taken = record {
@@ -148,6 +155,7 @@ module _ (s t atoms w u : List ℕ) (r x : ℕ) (present : Bool) (h : Tracked s 
       fresh = λ i p l n.
           h .fresh i p (rw (fixed .same-roles) l) (was-fresh x (getD atoms x 0) g p n)
           ∙ sym (column-stays s t p (fixed .same-roles) (λ a b. ap (λ (y : ℕ). has y p) (held-alike a)) (taken-alike p n) i);
+      known = known-kept w u (h .known) (λ j m. (g .known j m .0, λ k l. takers-kept j m k l (ℕ-discrete k x))) (g .above);
     }
 
 -- by kind

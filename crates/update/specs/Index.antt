@@ -1,5 +1,6 @@
 -- The policy the other way round, as words: of each role the roles that take it in, of each principal the roles that have it as
--- a member, and the principals whose places in the sets are out of date.
+-- a member, and the principals whose places in the sets are out of date; and, where that is known, of each role the roles from
+-- which it is reached.
 use mathlib.Core.Path.{_≡_}
 use Prim.Native.Nat.{ℕ, _+_, _<_, _≤_}
 use mathlib.Core.List.{List}
@@ -13,15 +14,22 @@ use Rattle.model.specs.Mutation.{Kind, addMember, deleteMember, addTaken, delet
 use Rattle.shared.specs.Words.{single}
 use Rattle.update.specs.Live.{Live, FixedLive}
 
--- a word for each role and for each principal, and one for the stale; where they begin
+-- a word for each role and for each principal, one for the stale, one for the roles that are known, and one more for each role;
+-- where they begin
 abbrev pub holdersAt : ℕ
 holdersAt = roleLimit
 
 abbrev pub staleAt : ℕ
 staleAt = holdersAt + principalLimit
 
+abbrev pub knownAt : ℕ
+knownAt = staleAt + 1
+
+abbrev pub aboveAt : ℕ
+aboveAt = knownAt + 1
+
 abbrev pub indexWords : ℕ
-indexWords = staleAt + 1
+indexWords = aboveAt + roleLimit
 
 -- the words from `from` on whose numbers are in a set stand before the stale ones
 unfoldable pub SetInside : ℕ → ℕ → Type 0
@@ -44,16 +52,18 @@ pub record Indexed (s : List ℕ) (n : ℕ) (w : List ℕ) : Type 0 where
   pub takers : Transposed (takes s) 0 roleLimit n w
   pub holders : Transposed (members s) holdersAt principalLimit n w
 
--- the same, and no place is stale
+-- the same, no place is stale, and of no role it is known from where it is reached
 pub record Loaded (s : List ℕ) (n : ℕ) (w : List ℕ) : Type 0 where
   pub indexed : Indexed s n w
   pub none-stale : getD w staleAt 0 ≡ 0
+  pub none-known : getD w knownAt 0 ≡ 0
 
 -- a set with or without a number
 unfoldable pub placed : Bool → ℕ → ℕ → ℕ
 placed present a i = cond present (with a i) (without a i)
 
--- u is w with i put into word k, or taken out; where that is a change, more principals are stale
+-- u is w with i put into word k, or taken out; where that is a change, more principals are stale. What is known was known, and
+-- no word of those that take in has changed
 pub record Turned (k i : ℕ) (present : Bool) (more : ℕ) (w u : List ℕ) : Type 0 where
   pub long : length u ≡ length w
   pub word : getD u k 0 ≡ placed present (getD w k 0) i
@@ -61,6 +71,8 @@ pub record Turned (k i : ℕ) (present : Bool) (more : ℕ) (w u : List ℕ) : T
   pub still-stale : (p : ℕ) → has (getD w staleAt 0) p ≡ true → has (getD u staleAt 0) p ≡ true
   pub now-stale : (p : ℕ) → has more p ≡ true → (has (getD w k 0) i ≡ present → ⊥) → has (getD u staleAt 0) p ≡ true
   pub only-stale : (p : ℕ) → has (getD u staleAt 0) p ≡ true → (has (getD w staleAt 0) p ≡ false) → has more p ≡ true
+  pub known : (j : ℕ) → has (getD u knownAt 0) j ≡ true → (has (getD w knownAt 0) j ≡ true) × (k < roleLimit → getD u k 0 ≡ getD w k 0)
+  pub above : (m : ℕ) → knownAt < m → getD u m 0 ≡ getD w m 0
 
 -- what a mutation does to the words: a member's places are stale, or those of all that the taken role means
 abbrev pub Noted : Kind → ℕ → ℕ → List ℕ → List ℕ → List ℕ → Type 0
@@ -77,24 +89,39 @@ Fresh s atoms stale = (r p : ℕ) → r < roles s → has stale p ≡ false → 
 unfoldable pub FewStale : ℕ → Type 0
 FewStale stale = (p : ℕ) → has stale p ≡ true → p < principalLimit
 
--- an accepted policy, the sets of its atoms but for stale places, and the policy the other way round
+-- one of the roles in `start` is reached from each of r, by the words of those that take in, and what takes in one of r is in r
+pub record Upward (w : List ℕ) (start r : ℕ) : Type 0 where
+  pub closed : (j i : ℕ) → j < roleLimit → has r j ≡ true → has (getD w j 0) i ≡ true → has r i ≡ true
+  pub least : (H : ℕ → Bool) → ((i : ℕ) → has start i ≡ true → H i ≡ true) → ((j i : ℕ) → j < roleLimit → H j ≡ true → has (getD w j 0) i ≡ true → H i ≡ true)
+      → (i : ℕ) → has r i ≡ true → H i ≡ true
+
+-- r is the roles in `start` and all from which one of them is reached
+pub record Reaching (w : List ℕ) (start r : ℕ) : Type 0 where
+  pub starts : (i : ℕ) → has start i ≡ true → has r i ≡ true
+  pub upward : Upward w start r
+
+-- the words have of each role in a set the roles from which it is reached
+unfoldable pub Known : List ℕ → ℕ → Type 0
+Known w set = (j : ℕ) → has set j ≡ true → Reaching w (single j) (getD w (aboveAt + j) 0)
+
+-- u is w, but for what is known of roles, and that is right
+pub record Learnt (w u : List ℕ) : Type 0 where
+  pub long : length u ≡ length w
+  pub same : (k : ℕ) → k < knownAt → getD u k 0 ≡ getD w k 0
+  pub known : Known u (getD u knownAt 0)
+
+-- an accepted policy, the sets of its atoms but for stale places, the policy the other way round, and what is known of roles
 pub record Tracked (s atoms w : List ℕ) : Type 0 where
   pub fixed-live : FixedLive s atoms
   pub indexed : Indexed s (roles s) w
   pub few-stale : FewStale (getD w staleAt 0)
   pub fresh : Fresh s atoms (getD w staleAt 0)
+  pub known : Known w (getD w knownAt 0)
 
 -- the same with no place stale
 pub record Settled (s atoms w : List ℕ) : Type 0 where
   pub tracked : Tracked s atoms w
   pub live : Live s atoms
-
--- r is the roles in `start` and all from which one of them is reached, by the words of those that take in
-pub record Reaching (w : List ℕ) (start r : ℕ) : Type 0 where
-  pub starts : (i : ℕ) → has start i ≡ true → has r i ≡ true
-  pub closed : (j i : ℕ) → has r j ≡ true → has (getD w j 0) i ≡ true → has r i ≡ true
-  pub least : (H : ℕ → Bool) → ((i : ℕ) → has start i ≡ true → H i ≡ true) → ((j i : ℕ) → j < roleLimit → H j ≡ true → has (getD w j 0) i ≡ true → H i ≡ true)
-      → (i : ℕ) → has r i ≡ true → H i ≡ true
 
 -- u is w with the principal p in the first n words where these are among some roles, and in no other of them
 pub record Spread (n among p : ℕ) (w u : List ℕ) : Type 0 where

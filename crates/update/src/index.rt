@@ -1,7 +1,7 @@
 // The policy the other way round, as words beside it: of each role the roles that take it in, of each principal the roles that
 // have it as a member. One more word has the principals whose places in the sets of atoms are out of date. A role means a
 // principal exactly where one of the principal's roles is reached from it, so one principal's places follow from these words
-// alone.
+// alone. The roles from which a role is reached are kept once they are found, until a role takes in another or no longer.
 ghost use mathlib.Core.Path.{_≡_};
 ghost use Prim.Native.Nat.{_+_, _<_};
 ghost use lib.ListN.{length, getD, set, replicate};
@@ -9,18 +9,23 @@ ghost use Rattle.model.specs.Limits.{principalLimit, roleLimit};
 ghost use Rattle.model.specs.Policy.{roles, Accepted};
 ghost use Rattle.shared.specs.Words.{single};
 ghost use Rattle.update.specs.Live.{atomWords};
-ghost use Rattle.update.specs.Index.{holdersAt, staleAt, indexWords, SetInside, Entered, Loaded, placed, Turned};
+ghost use Rattle.update.specs.Index.{holdersAt, staleAt, knownAt, indexWords, SetInside, Entered, Loaded, placed, Turned, Reaching, Known, Learnt};
 use super::atoms;
 use policy::rows;
 use shared::bytes;
 use shared::sets;
 
-// How many words there are; where those of the principals begin, and where the stale ones stand.
-pub const WORDS: usize = 97;
+// How many words there are; where those of the principals begin, where the stale ones stand, of which roles it is known from
+// where they are reached, and where the words of that begin.
+pub const WORDS: usize = 162;
 
 const HOLDERS: usize = 64;
 
 const STALE: usize = 96;
+
+const KNOWN: usize = 97;
+
+const ABOVE: usize = 98;
 
 // Puts i into each word, from `from` on, whose number is in a set.
 fn enter(index: &mut [u64], from: usize, set: u64, i: u64)
@@ -62,7 +67,8 @@ pub fn placed(present: bool, set: u64, i: u64) -> u64
     sets::without(set, i)
 }
 
-// Puts i into word k or takes it out. Where that changes the word, more principals are stale.
+// Puts i into word k or takes it out. Where that changes the word, more principals are stale; and where it is the word of a
+// taken role, nothing is known any more. Members leave what is known as it is.
 fn turn(index: &mut [u64], k: usize, i: u64, present: bool, more: u64)
     requires { ⌜ (length (now index) ≡ indexWords) × (k < staleAt) × (i < roleLimit) ⌝ }
     ensures { λ _. ⌜ Turned k i present more (now (index .entry)) (now (index .exit)) ⌝ }
@@ -74,6 +80,10 @@ fn turn(index: &mut [u64], k: usize, i: u64, present: bool, more: u64)
     }
     index[k] = new;
     index[STALE] = index[STALE] | more;
+    if k < HOLDERS {
+        index[KNOWN] = 0;
+        return;
+    }
 }
 
 // Role `role` has the principal x as a member, or no longer.
@@ -121,4 +131,36 @@ pub fn set_fresh(index: &mut [u64])
     ensures { λ _. ⌜ now (index .exit) ≡ set (now (index .entry)) staleAt 0 ⌝ }
 {
     index[STALE] = 0;
+}
+
+// The roles of which it is known from where they are reached.
+pub fn known(index: &[u64]) -> u64
+    requires { ⌜ length (now index) ≡ indexWords ⌝ }
+    ensures { λ r. ⌜ r ≡ getD (now (index .entry)) knownAt 0 ⌝ }
+{
+    index[KNOWN]
+}
+
+// Notes from where role j is reached.
+pub fn note_above(index: &mut [u64], j: u64, above: u64)
+    requires { ⌜ (length (now index) ≡ indexWords) × (j < roleLimit) × (Known (now index) (getD (now index) knownAt 0)) × Reaching (now index) (single j) above ⌝ }
+    ensures { λ _. ⌜ Learnt (now (index .entry)) (now (index .exit)) ⌝ }
+{
+    index[ABOVE + (j as usize)] = above;
+    index[KNOWN] = sets::with(index[KNOWN], j);
+}
+
+// The roles from which one of some is reached that are all known.
+pub fn above(index: &[u64], start: u64) -> u64
+    requires { ⌜ (length (now index) ≡ indexWords) × Known (now index) start ⌝ }
+    ensures { λ r. ⌜ Reaching (now (index .entry)) start r ⌝ }
+{
+    let mut seen = 0;
+    let mut rest = start;
+    while 0 < rest {
+        let j = sets::lowest(rest);
+        seen = seen | index[ABOVE + (j as usize)];
+        rest = sets::without_lowest(rest);
+    }
+    seen
 }

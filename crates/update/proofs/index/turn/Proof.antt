@@ -16,4 +16,7 @@ turn-spec =
     (λ c. search (needs, turnings))
     (λ c. search (needs, turnings))
     (λ c. search (needs, turnings))
+    (λ c. search (needs, turnings))
+    (λ c. search (needs, turnings))
+    (λ c. search (needs, turnings))
     (λ c. search (needs, turnings)))
