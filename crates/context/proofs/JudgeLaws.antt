@@ -6,7 +6,7 @@ use native.Mathlib.Nat.{lt-of-lt-of-le, one-mul}
 use native.Mathlib.Decide.{decLt, ℕ-discrete}
 use mathlib.Core.List.{List, [], _∷_}
 use mathlib.Core.Bool.{Bool, true, false, cond, _&&_}
-use lib.Bits.{bitAnd, and-mask}
+use lib.Bits.{bitAnd, bitOr, and-mask}
 use borrow.Author.Tests.{eq-eqb}
 use lib.Count.{trailingZeros}
 use lib.ListN.{length, getD}
@@ -19,7 +19,7 @@ use Rattle.model.specs.Fits.{AtomFits}
 use Rattle.model.specs.Order.{joinAtMost}
 use Rattle.model.specs.Flow.{labelAtom, label, eachIn}
 use Rattle.model.proofs.Accepted.{accepted-facts}
-use Rattle.model.proofs.Sets.{has-zero, has-and, and-has, within-has, has-within, has-power, has-without, without-has}
+use Rattle.model.proofs.Sets.{has-zero, in-none, has-or-l, has-or-r, subset-le, has-and, and-has, within-has, has-within, has-power, has-without, without-has}
 use Rattle.model.proofs.Truth.{same-truth, both, and-both}
 use Rattle.shared.proofs.SetLaws.{shifted}
 use Rattle.program.specs.Layout.{sideOf}
@@ -131,7 +131,28 @@ module _ (p t : List ℕ) (join : Join) (side : Side) (w : Written) (x : ℕ) (o
       let j : Joins side (C side) (join .roles) (join .watchers) = rw (← e) (asked .context .joined side) in
       rw i at (g s known (C side) (asked .is-accepted) (asked .knows) j (asked .context .below side) (rw i (target-fits s p side w x (asked .labels) m)))
 
-pub ruleset ones = (one-unknown, one-atom)
+-- the empty join is at most everything
+within-none : (n : ℕ) → within 0 n ≡ true
+within-none n = has-within 0 n (λ i k. in-none i k)
+
+none-in : (a b : ℕ) → bitOr a b ≡ 0 → (a ≡ 0) × (b ≡ 0)
+none-in a b e =
+    let l : a ≤ bitOr a b = subset-le a (bitOr a b) (λ i h. has-or-l a b i h) in
+    let m : b ≤ bitOr a b = subset-le b (bitOr a b) (λ i h. has-or-r a b i h) in
+    (omega arith, omega arith)
+
+pub one-empty : (p t : List ℕ) (join : Join) (flag : Bool) (w : Written) (x : ℕ) → bitOr (join .roles) (join .watchers) ≡ 0 → OneBelow p t join (sideOf flag) w x true
+unfolding OneBelow Decides
+one-empty p t join flag w x z s l known C asked e m =
+    let (rs, ws) = none-in (join .roles) (join .watchers) z in
+    let b = targetOf p (sideOf flag) w x in
+    let r = rowIn t (indexOf (codeAtom b)) in
+    let j : Joins (sideOf flag) (C (sideOf flag)) (join .roles) (join .watchers) = rw (← e) (asked .context .joined (sideOf flag)) in
+    let u = decided t (codeAtom b) (join .roles) (join .watchers) r (within (join .roles) (r .roles)) flag refl refl s known (C (sideOf flag)) (asked .is-accepted) (asked .knows) j
+    (asked .context .below (sideOf flag)) (rw (model-code b) (target-fits s p (sideOf flag) w x (asked .labels) m)) in
+    sym (and-both _ _ (rw rs (within-none (r .roles))) (rw ws (within-none (watched (sideOf flag) r)))) ∙ rw (model-code b) at u
+
+pub ruleset ones = (one-empty, one-unknown, one-atom)
 
 -- a set lies in an intersection exactly when it lies in each
 within-and : (a b c : ℕ) → within a (bitAnd b c) ≡ within a b && within a c

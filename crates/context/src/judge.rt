@@ -50,7 +50,7 @@ fn target(program: &[u8], trust: bool, written: Written, x: u8) -> AtomOf
     }
 }
 
-// Whether a join is at most what one write is held to.
+// Whether a join is at most what one write is held to. The empty join, as of a constant where nothing has flowed in, is.
 fn one_below(
     program: &[u8],
     table: &[u64],
@@ -62,6 +62,9 @@ fn one_below(
     requires { ⌜ length (now table) ≡ tableWords ⌝ }
     ensures { λ r. ⌜ OneBelow (now (program .entry)) (now (table .entry)) join (sideOf trust) written x r ⌝ }
 {
+    if join.roles | join.watchers == 0 {
+        return true;
+    }
     let AtomOf::Is(atom) = target(program, trust, written, x) else {
         return false;
     };

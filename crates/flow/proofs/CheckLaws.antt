@@ -469,6 +469,17 @@ skip-checked s p t c d at q code e around known C x end st h fit =
     let qe : q ≡ end = e ∙ ahead-is p at 1 (omega (arith, stmt-there p (principals s) (roles s) (variables p) d at h)) ∙ sym (u .1) in
     rw (u .0, qe) (position-told end (low-end st d at h))
 
+-- a skip after the first of two
+module _ (s p : List ℕ) (d at o m : ℕ) (i : Bool) (low : o < placeLimit) (e : i ≡ eqb (byte p o) 0) (h : i ≡ true) (k : m ≡ ahead p o 1) where
+  after-first : (t : List ℕ) (c : Context) → CheckedAt s p t c d o m
+  after-first t c = skip-checked s p t c d o m (eqb-true (byte p o) 0 (sym e ∙ h)) k
+
+  pub pair-skip : (t : List ℕ) (c : Context) → CheckedAt s p t c d at o → PairAt s p t c d at m
+  pair-skip t c f = pair-second s p t c d at o f m low (after-first t c)
+
+  pub branches-skip : (k t : List ℕ) (b c : Context) → CheckedAt s p k b d at o → BothAt s p k t b c d at m
+  branches-skip k t b c f = branches-second s p k t b c d at o f m low (after-first t c)
+
 -- a statement, by its code
 module _ (s p t : List ℕ) (c : Context) (d at : ℕ) where
   -- a block: what is left of it decides

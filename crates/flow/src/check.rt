@@ -283,7 +283,7 @@ fn check_block(
     next as u64
 }
 
-// Two statements, one after the other.
+// Two statements, one after the other. The second is often a skip, which is passed over here as in a block.
 fn check_pair(
     policy: &[u8],
     program: &[u8],
@@ -313,6 +313,9 @@ fn check_pair(
         return one;
     }
     let mid = one as usize;
+    if positions::is_skip(program, mid) {
+        return positions::ahead(program, mid, 1) as u64;
+    }
     check_stmt(
         &policy[..],
         &program[..],
@@ -569,6 +572,9 @@ fn check_branches(
         return one;
     }
     let other = one as usize;
+    if positions::is_skip(program, other) {
+        return positions::ahead(program, other, 1) as u64;
+    }
     check_stmt(
         &policy[..],
         &program[..],
