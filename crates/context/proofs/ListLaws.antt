@@ -1,38 +1,39 @@
 -- A law for each return and each turn of lists.rt: the answer for what is left of a list is the answer for the whole.
 use mathlib.Core.Path.{_≡_, refl, sym, ap, subst, _∙_}
 use mathlib.Core.Logic.{⊎-elim}
-use Prim.Native.Nat.{ℕ, zero, suc, _+_, _-_, _*_, _/_, _<_, _≤_}
+use Prim.Native.Nat.{ℕ, zero, suc, _+_, _-_, _*_, _/_, _%_, _<_, _≤_}
 use mathlib.Core.List.{List}
 use mathlib.Core.Bool.{Bool, true, false, cond}
 use native.Mathlib.Omega.{arith}
 use lib.Dec.{eqb, ltb}
 use lib.ListN.{length}
 use lib.Bits.{bitOr, or-zero-l, or-zero-r}
-use borrow.Author.Tests.{ltb-true, eq-eqb, ne-eqb, not-true, not-false}
+use borrow.Author.Tests.{lt-ltb, le-ltb, ltb-true, eq-eqb, ne-eqb, not-true, not-false}
 use Rattle.model.specs.Limits.{roleLimit}
 use Rattle.model.specs.Number.{programRange}
 use Rattle.model.specs.Bytes.{byte}
 use Rattle.model.specs.Policy.{reading, trust, Accepted, principals, roles, HasRow, mayHold, mayTake}
 use Rattle.model.specs.Mutation.{Kind, addMember, deleteMember, addTaken, deleteTaken, Mutation, allowed}
-use Rattle.model.specs.Syntax.{of, Atom, role, fixed, atomByte, Query}
+use Rattle.model.specs.Syntax.{of, everyone, Atom, role, fixed, atomByte, Query}
 use Rattle.model.specs.Program.{got, bad, readByte, readBelow, atomAt, readAtom, readQuery, mutationAt, readMutation}
 use Rattle.model.specs.Flow.{listedIn, allAllowed}
 use Rattle.model.proofs.Sets.{or-assoc}
 use Rattle.model.proofs.Accepted.{accepted-head}
 use Rattle.model.proofs.Rows.{row-inside}
 use Rattle.model.specs.Fits.{AtomFits, QueryFits}
+use Rattle.shared.specs.Words.{single}
 use Rattle.program.specs.declared.codes.Atom.{Atom as CodeAtom}
 use Rattle.program.specs.declared.codes.AtomOf.{AtomOf}
 use Rattle.program.specs.declared.codes.AtomOf.the-variants as atom
 use Rattle.program.specs.Codes.{atomOf, modelAtom}
 use Rattle.program.proofs.CodeLaws.{atom-is, atom-some}
-use Rattle.order.specs.Table.{namedRole, queryOf, queryRoles, listRoles, DecidesQuery}
+use Rattle.order.specs.Table.{namedRole, queryOf, listRoles, DecidesQuery}
 use Rattle.gathered.specs.Positions.{ahead}
 use Rattle.gathered.proofs.PositionLaws.{ahead-is}
 use Rattle.model.proofs.Standing.{then-parts, pick-parts, either-parts, same-value, byte-parts, below-parts, many-none, many-more, query-parts, queries-end, kindCode, mutation-parts, mutations-end}
 use Rattle.context.specs.declared.lists.QueryOf.{QueryOf}
 use Rattle.context.specs.declared.lists.QueryOf.the-variants as query
-use Rattle.context.specs.Lists.{SameAt, ListedAt, QueryNames, QueryAt, KnownAt, QueryRolesAt, ListRolesAt, HoldsRight, TakesRight, OneAllowedAt, AllowedAt}
+use Rattle.context.specs.Lists.{SameAt, ListedAt, QueryNames, QueryAt, KnownAt, byteRoles, QueryRolesAt, ListRolesAt, HoldsRight, TakesRight, OneAllowedAt, AllowedAt}
 
 -- a query that was read: its second byte stands one ahead, and the next query two ahead
 module _ (p : List ℕ) (R at : ℕ) {k : Query} {end : ℕ} (e : readQuery p R at ≡ got k end) where
@@ -168,21 +169,45 @@ query-is o q a b u h =
     let y : b ≡ u .second = cc (u .is) in
     rw (x, y) (u .stands)
 
--- the roles named in two atoms
-pub named-two : (a b : CodeAtom) (x y : ℕ) → x ≡ namedRole (modelAtom a) → y ≡ namedRole (modelAtom b) → bitOr x y ≡ queryRoles (queryOf a b)
-named-two a b x y e f = rw (e, f)
+-- the byte of an atom that was read names the atom's role
+byte-role : (x j : ℕ) → x < 0xc0 → x % 64 ≡ j → byteRoles x ≡ single j
+unfolding byteRoles
+byte-role x j h e = simp (lt-ltb _ _ h, e)
+
+byte-names : (a : Atom) → AtomFits roleLimit a → (x : ℕ) → atomByte a ≡ x → byteRoles x ≡ namedRole a
+unfolding byteRoles
+byte-names (role j) fit x e = byte-role x j (omega arith) (omega arith)
+byte-names (fixed (of reading j)) fit x e = byte-role x j (omega arith) (omega arith)
+byte-names (fixed (of trust j)) fit x e = byte-role x j (omega arith) (omega arith)
+byte-names (fixed everyone) fit x e = rw (← e)
+
+module _ (b : ℕ) where
+  pub byte-some : (i r : ℕ) → b < 0xc0 → i ≡ b → r ≡ single (i % 64) → r ≡ byteRoles b
+  unfolding byteRoles
+  byte-some i r h e f = f ∙ rw e (simp (lt-ltb _ _ h))
+
+  pub byte-none : 0xc0 ≤ b → 0 ≡ byteRoles b
+  unfolding byteRoles
+  byte-none h = simp (le-ltb _ _ h)
 
 -- the roles named in one query
-module _ (p : List ℕ) (at : ℕ) (o : QueryOf) (f : QueryAt p at o) where
-  pub named-none : o ≡ query.No → QueryRolesAt p at 0
-  unfolding QueryAt QueryRolesAt
-  named-none h R q end e = query-not o q (f R q end e) h
+module _ (p : List ℕ) (at : ℕ) where
+  pub named-past : (r : ℕ) → length p ≤ at → QueryRolesAt p at r
+  unfolding QueryRolesAt
+  named-past r h R q end e = absurd (omega (arith, query-parts p R at e .inside))
 
-  pub named-both : (a b : CodeAtom) (r : ℕ) → o ≡ query.Is a b → r ≡ queryRoles (queryOf a b) → QueryRolesAt p at r
-  unfolding QueryAt QueryRolesAt
-  named-both a b r h l R q end e = l ∙ ap queryRoles (query-is o q a b (f R q end e) h)
+  pub named-short : (r : ℕ) → at < length p → length p - at < 2 → QueryRolesAt p at r
+  unfolding QueryRolesAt
+  named-short r l h R q end e = absurd (omega (arith, query-parts p R at e .inside))
 
-pub ruleset query-names = (named-none, named-both)
+  pub named-both : (x y : ℕ) → x ≡ byteRoles (byte p at) → y ≡ byteRoles (byte p (at + 1)) → QueryRolesAt p at (bitOr x y)
+  unfolding QueryRolesAt
+  named-both x y f g R q end e =
+      let u = query-parts p R at e in
+      let v = query-small p R at e in
+      rw (f, g, byte-names (q .first) (v .0) (byte p at) (u .first-byte), byte-names (q .second) (v .1) (byte p (at + 1)) (u .second-byte))
+
+pub ruleset query-names = (named-past, named-short, named-both)
 
 -- whether the table knows one query already
 module _ (p t : List ℕ) (at : ℕ) (o : QueryOf) (f : QueryAt p at o) where

@@ -1,8 +1,10 @@
 -- What the walks over a transaction's list and an update's mutations say of the lists that were read there.
-use Prim.Native.Nat.{ℕ, _<_}
+use Prim.Native.Nat.{ℕ, _%_, _<_}
 use mathlib.Core.Path.{_≡_}
 use mathlib.Core.List.{List}
-use mathlib.Core.Bool.{Bool}
+use mathlib.Core.Bool.{Bool, cond}
+use lib.Dec.{ltb}
+use Rattle.shared.specs.Words.{single}
 use Rattle.model.specs.Policy.{Accepted, principals, roles, mayHold, mayTake}
 use Rattle.model.specs.Mutation.{Mutation, allowed}
 use Rattle.model.specs.Syntax.{Query, sameQuery}
@@ -38,6 +40,10 @@ QueryAt p at o = (R : ℕ) (q : Query) (end : ℕ) → readQuery p R at ≡ got 
 -- r says whether the table t knows the query that stands at a position already
 unfoldable pub KnownAt : List ℕ → List ℕ → ℕ → Bool → Type 0
 KnownAt p t at r = (R : ℕ) (q : Query) (end : ℕ) → readQuery p R at ≡ got q end → DecidesQuery t q r
+
+-- the role that the byte of an atom names, as a set
+unfoldable pub byteRoles : ℕ → ℕ
+byteRoles x = cond (ltb x 0xc0) (single (x % 64)) 0
 
 -- r is the set of the roles named in the query that stands at a position
 unfoldable pub QueryRolesAt : List ℕ → ℕ → ℕ → Type 0

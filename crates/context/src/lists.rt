@@ -4,14 +4,14 @@ ghost use mathlib.Core.Path.{_≡_};
 ghost use Prim.Native.Nat.{_+_, _≤_};
 ghost use lib.ListN.{length};
 ghost use Rattle.model.specs.Policy.{Accepted};
-ghost use Rattle.order.specs.Table.{tableWords, queryOf, queryRoles};
-ghost use Rattle.context.specs.Lists.{SameAt, ListedAt, QueryAt, KnownAt, QueryRolesAt, ListRolesAt, HoldsRight, TakesRight, OneAllowedAt, AllowedAt};
+ghost use Rattle.order.specs.Table.{tableWords};
+ghost use Rattle.context.specs.Lists.{SameAt, ListedAt, QueryAt, KnownAt, byteRoles, QueryRolesAt, ListRolesAt, HoldsRight, TakesRight, OneAllowedAt, AllowedAt};
 use gathered::positions;
-use order::table;
 use policy::rows;
 use program::codes::Atom;
 use program::codes::AtomOf;
 use shared::bytes;
+use shared::sets;
 
 // Whether the query that stands at `at` is the one that stands at `other`: both bytes are the same.
 fn is_same(program: &[u8], at: usize, other: usize) -> bool
@@ -73,21 +73,27 @@ pub fn query_at(program: &[u8], at: usize) -> QueryOf
     QueryOf::Is(first, second)
 }
 
-// The roles that the two atoms of a query name.
-pub fn named_roles(first: Atom, second: Atom) -> u64
-    ensures { λ r. ⌜ r ≡ queryRoles (queryOf first second) ⌝ }
+// The role that the byte of an atom names, as a set. Everyone's, FF, names none.
+fn byte_roles(b: u8) -> u64
+    ensures { λ r. ⌜ r ≡ byteRoles b ⌝ }
 {
-    table::named(first) | table::named(second)
+    if b < 0xc0 {
+        return sets::single((bytes::wide(b) as u64) % 64);
+    }
+    0
 }
 
 // The roles named in the query that stands at `at`.
 pub fn query_roles(program: &[u8], at: usize) -> u64
     ensures { λ r. ⌜ QueryRolesAt (now (program .entry)) at r ⌝ }
 {
-    let QueryOf::Is(first, second) = query_at(program, at) else {
+    if program.len() <= at {
         return 0;
-    };
-    named_roles(first, second)
+    }
+    if program.len() - at < positions::QUERY_BYTES {
+        return 0;
+    }
+    byte_roles(program[at]) | byte_roles(program[at + 1])
 }
 
 // Whether the table knows the query that stands at `at` already.
