@@ -150,7 +150,8 @@ one-empty p t join flag w x z s l known C asked e m =
     let j : Joins (sideOf flag) (C (sideOf flag)) (join .roles) (join .watchers) = rw (← e) (asked .context .joined (sideOf flag)) in
     let u = decided t (codeAtom b) (join .roles) (join .watchers) r (within (join .roles) (r .roles)) flag refl refl s known (C (sideOf flag)) (asked .is-accepted) (asked .knows) j
     (asked .context .below (sideOf flag)) (rw (model-code b) (target-fits s p (sideOf flag) w x (asked .labels) m)) in
-    sym (and-both _ _ (rw rs (within-none (r .roles))) (rw ws (within-none (watched (sideOf flag) r)))) ∙ rw (model-code b) at u
+    let v : within (join .roles) (r .roles) && within (join .watchers) (watched (sideOf flag) r) ≡ true = and-both (within (join .roles) (r .roles)) (within (join .watchers) (watched (sideOf flag) r)) (rw rs (within-none (r .roles))) (rw ws (within-none (watched (sideOf flag) r))) in
+    sym v ∙ rw (model-code b) at u
 
 pub ruleset ones = (one-empty, one-unknown, one-atom)
 

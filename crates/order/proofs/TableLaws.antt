@@ -21,7 +21,7 @@ use Rattle.program.specs.declared.codes.Atom.{Atom as CodeAtom}
 use Rattle.program.specs.declared.codes.Atom.the-variants.{Role, Viewers, Trusters, Everyone}
 use Rattle.program.specs.Codes.{modelAtom}
 use Rattle.order.specs.declared.table.Row.{Row}
-use Rattle.order.specs.Table.{viewersAt, trustersAt, everyoneAt, tableRows, tableWords, rowOf, slot, indexOf, rowIn, putRow, holds, union, withRole, namedRole}
+use Rattle.order.specs.Table.{viewersAt, trustersAt, everyoneAt, tableRows, tableWords, rowOf, slot, indexOf, rowIn, putRow, holds, union, withRole}
 
 -- where an atom's row is
 module _ (from j n : ℕ) (e : n ≡ j) where
@@ -55,19 +55,6 @@ index-is n Everyone few l = refl
 
 pub row-of : (t : List ℕ) (a : CodeAtom) (k : ℕ) (r : Row) → k ≡ indexOf a → r ≡ rowIn t k → r ≡ rowIn t (indexOf a)
 row-of t a k r e h = rw (← e) h
-
--- the role that an atom names, which the code has as the wider number n
-module _ (a : CodeAtom) (j n r : ℕ) (e : n ≡ j) (h : r ≡ single n) where
-  pub role-named : a ≡ Role j → r ≡ namedRole (modelAtom a)
-  role-named f = rw (f, ← e) h
-
-  pub viewers-named : a ≡ Viewers j → r ≡ namedRole (modelAtom a)
-  viewers-named f = rw (f, ← e) h
-
-  pub trusters-named : a ≡ Trusters j → r ≡ namedRole (modelAtom a)
-  trusters-named f = rw (f, ← e) h
-
-pub ruleset names = (role-named, viewers-named, trusters-named)
 
 -- membership of an atom, whose role the code has as the wider number n
 module _ (r : Row) (a : CodeAtom) (j n : ℕ) (b : Bool) (e : n ≡ j) where

@@ -5,7 +5,7 @@ ghost use lib.ListN.{length};
 ghost use Rattle.model.specs.Limits.{roleLimit};
 ghost use Rattle.program.specs.Codes.{modelAtom};
 ghost use Rattle.program.specs.Layout.{sideOf};
-ghost use Rattle.order.specs.Table.{trustersAt, tableRows, tableWords, slot, indexOf, rowIn, putRow, watched, holds, union, withRole, namedRole};
+ghost use Rattle.order.specs.Table.{trustersAt, tableRows, tableWords, slot, indexOf, rowIn, putRow, watched, holds, union, withRole};
 use program::codes::Atom;
 use shared::bytes;
 use shared::limit;
@@ -129,17 +129,5 @@ pub fn with_role(row: Row, j: u64) -> Row
         roles: row.roles | sets::single(j),
         viewers: row.viewers,
         trusters: row.trusters,
-    }
-}
-
-// The role that an atom names, as a set. Everyone names none.
-pub fn named(atom: Atom) -> u64
-    ensures { λ r. ⌜ r ≡ namedRole (modelAtom atom) ⌝ }
-{
-    match atom {
-        Atom::Role(j) => sets::single(bytes::wide(j) as u64),
-        Atom::Viewers(j) => sets::single(bytes::wide(j) as u64),
-        Atom::Trusters(j) => sets::single(bytes::wide(j) as u64),
-        Atom::Everyone => 0,
     }
 }

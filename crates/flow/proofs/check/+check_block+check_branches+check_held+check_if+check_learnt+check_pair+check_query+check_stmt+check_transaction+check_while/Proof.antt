@@ -1,7 +1,7 @@
 -- The cycle of checks: each return is the verdict of the tree that stands at the position, by a law for that return; the
 -- remaining depth falls, and where it stays each callee comes after its caller. A block: what is left of it decides.
 use Rattle.context.specs.Context.{contextOf}
-use Rattle.flow.proofs.CheckLaws.{Blocking, pair-first, pair-second, few-roles, ready-table, ready-held, ready-entered, branches-first, branches-second, held-both, learnt-none, learnt-both, block-start, block-done, block-refused, block-more, block-skip, if-checked, while-checked, query-outside, query-unlisted, query-free, query-known, query-listed, transaction-nested, transaction-body, stmt-none, stmt-unknown, stmt-skip, stmt-assign, stmt-update, stmt-coded}
+use Rattle.flow.proofs.CheckLaws.{Blocking, pair-first, pair-second, pair-skip, few-roles, ready-table, ready-held, ready-entered, branches-first, branches-second, branches-skip, held-both, learnt-none, learnt-both, block-start, block-done, block-refused, block-more, block-skip, if-checked, while-checked, query-outside, query-unlisted, query-free, query-known, query-listed, transaction-nested, transaction-body, stmt-none, stmt-unknown, stmt-skip, stmt-assign, stmt-update, stmt-coded}
 use borrow.Author.Needs.{needs}
 use Prim.Native.Nat.{ℕ, _<_, _+_, _*_}
 use borrow.Fn.Kinds.{In}
@@ -243,12 +243,21 @@ pub +check-block+check-branches+check-held+check-if+check-learnt+check-pair+chec
     (λ c. search needs)
     (λ c. search (needs, block-more))
     (λ c. search (needs, block-done)))
-    (λ t. check-branches-lts.spec
-    (check-stmt-below t, check-stmt.Post)
+    (λ t. check-branches-lts.spec (
+      check-stmt-below t,
+      check-stmt.Post,
+      is-skip-reads.Asked,
+      is-skip-reads.Learnt,
+      ahead-reads.Asked,
+      ahead-reads.Learnt,
+    )
     (check-branches-at t)
     check-branches.Post
     (λ c κs. search needs)
     (λ c. search (needs, branches-first))
+    (λ c κs. search needs)
+    (λ c κs. search needs)
+    (λ c. search (needs, branches-skip))
     (λ c κs. search needs)
     (λ c. search (needs, branches-second)))
     (λ t. check-held-lts.spec (
@@ -303,12 +312,21 @@ pub +check-block+check-branches+check-held+check-if+check-learnt+check-pair+chec
     (λ c κs. search (needs, few-roles))
     (λ c κs. search (needs, ready-table))
     (λ c. search (needs, learnt-both)))
-    (λ t. check-pair-lts.spec
-    (check-stmt-below t, check-stmt.Post)
+    (λ t. check-pair-lts.spec (
+      check-stmt-below t,
+      check-stmt.Post,
+      is-skip-reads.Asked,
+      is-skip-reads.Learnt,
+      ahead-reads.Asked,
+      ahead-reads.Learnt,
+    )
     (check-pair-at t)
     check-pair.Post
     (λ c κs. search needs)
     (λ c. search (needs, pair-first))
+    (λ c κs. search needs)
+    (λ c κs. search needs)
+    (λ c. search (needs, pair-skip))
     (λ c κs. search needs)
     (λ c. search (needs, pair-second)))
     (λ t. check-query-lts.spec (
