@@ -1,15 +1,16 @@
 -- A law for each return of settle.rt, and for its loops: one principal's places are right once they are made anew, and when no
 -- principal is stale the sets are those of the policy.
-use mathlib.Core.Path.{_≡_, refl, sym, _∙_}
-use Prim.Native.Nat.{ℕ, _+_, _-_, _^_, _<_, _≤_}
+use mathlib.Core.Path.{_≡_, refl, sym, ap, _∙_}
+use Prim.Native.Nat.{ℕ, suc, _+_, _-_, _/_, _%_, _^_, _<_, _≤_}
 use mathlib.Core.Logic.{⊎-elim}
 use mathlib.Core.List.{List}
 use mathlib.Core.Bool.{Bool, true, false}
 use native.Mathlib.Omega.{arith}
 use native.Mathlib.Decide.{ℕ-discrete}
-use native.Mathlib.Nat.{lt-of-le-of-lt}
 use mir.Val.{Fits}
 use mir.Syntax.{w32}
+use lib.Dec.{eqb}
+use lib.Pow.{pow-lt}
 use lib.Bits.{bitAnd, bitOr, bitXor}
 use lib.Count.{trailingZeros}
 use lib.ListN.{length, getD, set, length-set}
@@ -24,10 +25,10 @@ use Rattle.model.specs.Meaning.{meaning}
 use Rattle.model.proofs.Accepted.{accepted-facts}
 use Rattle.model.proofs.Below.{last-or}
 use Rattle.model.proofs.Least.{meaning-closed, meaning-least}
-use Rattle.model.proofs.Sets.{has-zero, not-in, in-not, in-none, has-or-l, has-or-r, or-has, and-has, or-grows, has-below, power-in, with-has, with-below, has-without, without-has, without-le, xor-has, xor-none, same-sets}
+use Rattle.model.proofs.Sets.{half-has, has-zero, not-in, in-not, in-none, has-or-l, has-or-r, or-has, and-has, or-grows, has-below, power-in, has-with-same, has-with, with-has, has-without, without-has, xor-has, xor-none, same-sets}
 use Rattle.model.proofs.Truth.{same-truth}
 use Rattle.shared.specs.Words.{single}
-use Rattle.shared.proofs.SetLaws.{next-without, fewer}
+use Rattle.shared.proofs.SetLaws.{single-is, held-power, next-without, fewer}
 use Rattle.update.specs.Live.{atomWords, FixedLive}
 use Rattle.update.specs.Index.{holdersAt, staleAt, knownAt, indexWords, Indexed, placed, Fresh, FewStale, Upward, Reaching, Known, Learnt, Tracked, Settled, Spread}
 use Rattle.update.proofs.IndexLaws.{count-is, placed-same, placed-other, transposed-kept, known-kept, none-upward, one-upward}
@@ -91,36 +92,98 @@ single-reaching w j x one e h = rw e at h
 
 pub ruleset reachings = (all-known, none-upward, first-upward, learnt-nothing, single-reaching)
 
--- one principal in or out of the sets, role by role
+-- a set without a number, by putting it in first
+module _ (here : Bool) (old p x : ℕ) (l : p < principalLimit) (e : x ≡ single p) where
+  bit-is : x ≡ 2 ^ p
+  bit-is = e ∙ single-is p (omega arith)
+
+  pub bit-fits : Fits w32 x
+  bit-fits = record { fits = rw bit-is (pow-lt l) }
+
+  pub bit-below : x ≤ bitOr old x
+  bit-below = rw bit-is (held-power (with old p) p (has-with-same old p))
+
+  pub placed-both : here ≡ true → bitOr old x ≡ placed here old p
+  unfolding placed
+  placed-both h = rw (h, bit-is) refl
+
+  pub placed-off : here ≡ false → bitOr old x - x ≡ placed here old p
+  unfolding placed
+  placed-off h = rw (h, bit-is) (both ∙ same-sets (without (with old p) p) (without old p) out back)
+    where
+      both : with old p - 2 ^ p ≡ without (with old p) p
+      both = simp (has-with-same old p)
+
+      out : (j : ℕ) → has (without (with old p) p) j ≡ true → has (without old p) j ≡ true
+      out j m = let (a, n) = without-has (with old p) p j m in ⊎-elim (λ q. absurd (n q)) (λ y. has-without old p j y n) (with-has old p j a)
+
+      back : (j : ℕ) → has (without old p) j ≡ true → has (without (with old p) p) j ≡ true
+      back j m = let (a, n) = without-has old p j m in has-without (with old p) p j (has-with old p j a) n
+
+pub ruleset placeds = (bit-fits, bit-below, placed-both, placed-off)
+
+pub place-so : (w : List ℕ) (i x p v : ℕ) (here : Bool) → x ≡ getD w i 0 → v ≡ placed here x p → set w i v ≡ set w i (placed here (getD w i 0) p)
+place-so w i x p v here e f = rw (f, e) refl
+
+-- the first n words have the principal, or not, as they are to
+pub record Over (n among p : ℕ) (w u : List ℕ) : Type 0 where
+  pub long : length u ≡ length w
+  pub inside : (r : ℕ) → r < n → getD u r 0 ≡ placed (has among r) (getD w r 0) p
+  pub outside : (r : ℕ) → n ≤ r → getD u r 0 ≡ getD w r 0
+
+over-more : (among p : ℕ) (w : List ℕ) (n m : ℕ) (u v : List ℕ) (b : Bool) → m ≡ n → Over n among p w u → n < length u → b ≡ has among n → v ≡ set u m (placed b (getD u m 0) p) → Over (n + 1) among p w v
+over-more among p w n m u v b em h l eb ev = rw (ev, em) (record {
+  long = length-set u n _ ∙ h .long;
+  inside = λ r k. ⊎-elim
+      (λ q. rw q (getD-set-same u n _ 0 l ∙ rw (eb, h .outside n (omega arith)) refl))
+      (λ q. getD-set-other u n r _ 0 (λ z. omega arith) ∙ h .inside r q) (last-or n r (omega arith));
+  outside = λ r k. getD-set-other u n r _ 0 (λ z. omega arith) ∙ h .outside r (omega arith);
+})
+
+-- one principal in or out of the sets, four roles at a time; the rest is of the roles from n on
+pub record Spreading (n among rest p : ℕ) (w u : List ℕ) : Type 0 where
+  pub over : Over n among p w u
+  pub ahead : (k : ℕ) → has rest k ≡ has among (n + k)
+
 module _ (among p : ℕ) (w : List ℕ) where
-  pub spread-start : Spread 0 among p w w
-  spread-start = record { long = refl; inside = λ r l. absurd (omega arith); outside = λ r l. refl }
+  pub spreading-start : Spreading 0 among among p w w
+  spreading-start = record {
+    over = record { long = refl; inside = λ r l. absurd (omega arith); outside = λ r l. refl };
+    ahead = λ k. let z : 0 + k ≡ k = omega arith in rw z refl;
+  }
 
-  module _ (n : ℕ) (u : List ℕ) (h : Spread n among p w u) where
-    pub spread-more : (b : Bool) (old v : ℕ) → n < length u → b ≡ has among n → old ≡ getD u n 0 → v ≡ placed b old p → Spread (n + 1) among p w (set u n v)
-    spread-more b old v l eb eo ev = record {
-      long = length-set u n v ∙ h .long;
-      inside = λ r k. ⊎-elim
-          (λ q. rw q (getD-set-same u n v 0 l ∙ ev ∙ rw (eb, eo, h .outside n (omega arith)) refl))
-          (λ q. getD-set-other u n r v 0 (λ z. omega arith) ∙ h .inside r q) (last-or n r (omega arith));
-      outside = λ r k. getD-set-other u n r v 0 (λ z. omega arith) ∙ h .outside r (omega arith);
+  module _ (n rest : ℕ) (u : List ℕ) (h : Spreading n among rest p w u) where
+    pub spreading-more : (b₀ b₁ b₂ b₃ : Bool) (u₁ u₂ u₃ u₄ : List ℕ) → n + 3 < length u
+        → b₀ ≡ has (rest % 16) 0 → u₁ ≡ set u n (placed b₀ (getD u n 0) p)
+        → b₁ ≡ has (rest % 16) 1 → u₂ ≡ set u₁ (n + 1) (placed b₁ (getD u₁ (n + 1) 0) p)
+        → b₂ ≡ has (rest % 16) 2 → u₃ ≡ set u₂ (n + 2) (placed b₂ (getD u₂ (n + 2) 0) p)
+        → b₃ ≡ has (rest % 16) 3 → u₄ ≡ set u₃ (n + 3) (placed b₃ (getD u₃ (n + 3) 0) p) → Spreading (n + 4) among (rest / 16) p w u₄
+    spreading-more b₀ b₁ b₂ b₃ u₁ u₂ u₃ u₄ room e₀ f₀ e₁ f₁ e₂ f₂ e₃ f₃ = record {
+      over =
+          let one = over-more among p w n n u u₁ b₀ refl (h .over) (omega arith) (is 0 n b₀ (omega arith) e₀ (omega arith)) f₀ in
+          let two = over-more among p w (n + 1) (n + 1) u₁ u₂ b₁ refl one (omega (arith, one .long, h .over .long)) (is 1 (n + 1) b₁ (omega arith) e₁ (omega arith)) f₁ in
+          let three = over-more among p w (n + 1 + 1) (n + 2) u₂ u₃ b₂ (omega arith) two (omega (arith, two .long, h .over .long)) (is 2 (n + 1 + 1) b₂ (omega arith) e₂ (omega arith)) f₂ in
+          let four = over-more among p w (n + 1 + 1 + 1) (n + 3) u₃ u₄ b₃ (omega arith) three (omega (arith, three .long, h .over .long)) (is 3 (n + 1 + 1 + 1) b₃ (omega arith) e₃ (omega arith)) f₃ in
+          let q : n + 1 + 1 + 1 + 1 ≡ n + 4 = omega arith in
+          rw q at four;
+      ahead = ahead;
     }
+      where
+        -- the test of the k-th of the four is that of role m
+        is : (k m : ℕ) (b : Bool) → rest % 16 / 2 ^ k % 2 ≡ rest / 2 ^ k % 2 → b ≡ has (rest % 16) k → m ≡ n + k → b ≡ has among m
+        is k m b q f g = f ∙ ap (λ (x : ℕ). eqb x 1) q ∙ h .ahead k ∙ ap (has among) (sym g)
 
-    pub spread-done : (count : ℕ) → n ≤ count → count ≤ n → Spread count among p w u
-    spread-done count l k = let e : count ≡ n = omega arith in rw e h
+        ahead : (k : ℕ) → has (rest / 16) k ≡ has among (n + 4 + k)
+        ahead k =
+            let q : rest / 16 ≡ rest / 2 / 2 / 2 / 2 = omega arith in
+            let g : n + suc (suc (suc (suc k))) ≡ n + 4 + k = omega arith in
+            ap (λ (x : ℕ). has x k) q ∙ half-has (rest / 2 / 2 / 2) k ∙ half-has (rest / 2 / 2) (suc k) ∙ half-has (rest / 2) (suc (suc k)) ∙ half-has rest (suc (suc (suc k)))
+            ∙ h .ahead (suc (suc (suc (suc k)))) ∙ ap (has among) g
 
-    pub spread-long : length u ≡ length w
-    spread-long = h .long
+    pub spreading-done : (count : ℕ) → count ≤ n → n ≤ roleLimit → Spread count among p w u
+    spreading-done count l k = record { long = h .over .long; inside = λ r b. h .over .inside r (omega arith); outside = λ r b. h .over .outside r (omega arith) }
 
-    pub spread-inside : (count k : ℕ) → length w ≡ k → n < count → count ≤ roleLimit → roleLimit ≤ k → n < length u
-    spread-inside count k e l few long = omega (arith, h .long)
-
-pub placed-fits : (b : Bool) (a i v : ℕ) → v ≡ placed b a i → a < 2 ^ 32 → i < principalLimit → Fits w32 v
-unfolding placed
-placed-fits true a i v e l k = record { fits = rw e (with-below 32 a i l k) }
-placed-fits false a i v e l k = record { fits = rw e (lt-of-le-of-lt (without-le a i) l) }
-
-pub ruleset spreads = (spread-start, spread-more, spread-done, spread-long, spread-inside, placed-fits)
+pub ruleset spreads = (spreading-start, spreading-more, spreading-done)
 
 -- the roles from which one that has the principal p as a member is reached are those that mean p
 module _ (s w : List ℕ) (ok : Accepted s) (h : Indexed s (roles s) w) (p among : ℕ) (l : p < principalLimit) (g : Reaching w (getD w (holdersAt + p) 0) among) where
@@ -210,7 +273,7 @@ module _ (s atoms w : List ℕ) where
       fixed-live = record {
         accepted = ok;
         long = d .long ∙ h .fixed-live .long;
-        sets = λ f l. d .outside (atomByte (fixed f)) (omega (arith, behind (roles s) (accepted-facts s ok .roles-fit) f)) ∙ h .fixed-live .sets f l;
+        sets = λ f l. d .outside (atomByte (fixed f)) (behind roleLimit (omega arith) f) ∙ h .fixed-live .sets f l;
       };
       indexed = indexed-kept s (roles s) w w₁ (h .indexed) (new .long) (λ k l. new .same k (omega arith));
       few-stale = λ q n. h .few-stale q (without-has stale p q (rw is at n) .0);

@@ -123,8 +123,9 @@ pub record Settled (s atoms w : List ℕ) : Type 0 where
   pub tracked : Tracked s atoms w
   pub live : Live s atoms
 
--- u is w with the principal p in the first n words where these are among some roles, and in no other of them
+-- u is w with the principal p in the first n words where these are among some roles, and in no other of them; behind the words
+-- of roles nothing changes
 pub record Spread (n among p : ℕ) (w u : List ℕ) : Type 0 where
   pub long : length u ≡ length w
   pub inside : (r : ℕ) → r < n → getD u r 0 ≡ placed (has among r) (getD w r 0) p
-  pub outside : (r : ℕ) → n ≤ r → getD u r 0 ≡ getD w r 0
+  pub outside : (r : ℕ) → roleLimit ≤ r → getD u r 0 ≡ getD w r 0

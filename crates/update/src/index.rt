@@ -57,7 +57,7 @@ pub fn load(policy: &[u8], index: &mut [u64])
 }
 
 // A set with or without a number.
-pub fn placed(present: bool, set: u64, i: u64) -> u64
+fn placed(present: bool, set: u64, i: u64) -> u64
     requires { ⌜ i < roleLimit ⌝ }
     ensures { λ r. ⌜ r ≡ placed present set i ⌝ }
 {
