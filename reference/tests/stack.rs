@@ -28,9 +28,10 @@ fn policy() -> Vec<u8> {
     generate::encode(&Policy { principals: 32, rows: (1..=64).map(row).collect() })
 }
 
-/// Mark, version, and one variable for everyone.
+/// Mark, version, one variable for everyone, and one that is not: so not all that may flow in a
+/// transaction is at most what it writes, and the library makes a table for each new query.
 fn head() -> Vec<u8> {
-    vec![0x52, 0x58, 0x50, 0x01, 0x00, 1, 0xFF, 0xFF]
+    vec![0x52, 0x58, 0x50, 0x01, 0x00, 2, 0xFF, 0xFF, 20, 20]
 }
 
 /// v0 := a sum of v0 that is 16 deep.
@@ -79,7 +80,7 @@ fn within<T: Send + 'static>(stack: usize, program: &[u8], call: fn(&[u8], &[u8]
 
 #[test]
 fn programs() {
-    let body = (42, 30 * 3 + 49 + 30);
+    let body = (44, 30 * 3 + 49 + 30);
     let cases = [
         ("different queries", nested_queries(true, &assignment()), body),
         ("the same query", nested_queries(false, &assignment()), body),
@@ -111,7 +112,7 @@ fn runs() {
         ("whiles", nested(&[0x04, 0x01, 0], &[]), 31 + 8 + 8 + 30),
     ];
     let run = |policy: &[u8], program: &[u8]| {
-        let (mut policy, mut memory) = (policy.to_vec(), [1, 0, 0, 0]);
+        let (mut policy, mut memory) = (policy.to_vec(), [1, 0, 0, 0, 0, 0, 0, 0]);
         proved_program::run(&mut policy, program, &mut memory, MOST_FUEL)
     };
     for (what, program, units) in cases {
