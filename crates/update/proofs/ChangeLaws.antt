@@ -1,6 +1,6 @@
 -- What carrying out an update gives, from its parts, and that an update and a list that stand under one policy do under another.
 use mathlib.Core.Path.{_≡_, refl, sym, _∙_}
-use Prim.Native.Nat.{ℕ, zero, suc, _-_, _≤_}
+use Prim.Native.Nat.{ℕ, zero, suc, _+_, _-_, _*_, _<_, _≤_}
 use native.Mathlib.Omega.{arith}
 use mathlib.Core.List.{List}
 use mathlib.Core.Bool.{Bool, true, false, not, _&&_, _||_}
@@ -13,7 +13,7 @@ use Rattle.model.specs.Program.{got, readMany, readQuery}
 use Rattle.model.specs.Atoms.{holds}
 use Rattle.model.specs.Run.{broken}
 use Rattle.model.proofs.Reading.{query-fits}
-use Rattle.model.proofs.Standing.{many-none, many-more}
+use Rattle.model.proofs.Standing.{many-none, many-more, query-parts, queries-end}
 use Rattle.update.specs.Live.{atomWords, Live}
 use Rattle.update.specs.Index.{staleAt, indexWords, Tracked, Settled}
 use Rattle.update.specs.Mutations.{Mutable, Mutated}
@@ -101,7 +101,14 @@ pub few-listed : (p s : List ℕ) (count at : ℕ) → Listing p s count at → 
 unfolding Listing
 few-listed p s count at h = h .few
 
-pub ruleset carries = (settled-tracked, settled-atoms, tracked-atoms, tracked-index, made-tracked, carried-none, carried, judged-still, judged-so, few-listed)
+pub bytes-there : (p s : List ℕ) (count at : ℕ) → Listing p s count at → 0 < count → at + 2 * count ≤ length p
+unfolding Listing
+bytes-there p s count at h l =
+    let v = many-more (readQuery p (roles s)) count at (h .is-read) l in
+    let e = queries-end p (roles s) count at (h .is-read) (omega (arith, query-parts p (roles s) at (v .head-read) .inside)) in
+    omega (arith, e .0, e .1)
+
+pub ruleset carries = (bytes-there, settled-tracked, settled-atoms, tracked-atoms, tracked-index, made-tracked, carried-none, carried, judged-still, judged-so, few-listed)
 
 -- Where the update and the list of an accepted program stand, they do under every policy with the same fixed part.
 module _ (p s t : List ℕ) (f : SameFixed s t) where

@@ -1,6 +1,6 @@
 -- A law for each return of listed.rt, and the loop: the bits so far, with those of the queries left, are those of all. A listed query broke exactly when a bit was lost.
 use mathlib.Core.Path.{_≡_, refl, sym, ap, _∙_}
-use Prim.Native.Nat.{ℕ, suc, _+_, _-_, _^_, _<_, _≤_}
+use Prim.Native.Nat.{ℕ, suc, _+_, _-_, _*_, _<_, _≤_}
 use mathlib.Core.Logic.{⊎-elim}
 use mathlib.Core.List.{List, [], _∷_}
 use mathlib.Core.Bool.{Bool, true, false, cond, not, _&&_, _||_, true≢false, false≢true}
@@ -18,20 +18,16 @@ use Rattle.model.specs.Atoms.{holds}
 use Rattle.model.specs.Run.{broken}
 use Rattle.model.proofs.Sets.{has-zero, within-has, has-within, has-with, has-with-same, with-has, or-assoc}
 use Rattle.model.proofs.Standing.{many-none, many-more, query-parts}
-use Rattle.shared.specs.Words.{single}
-use Rattle.shared.proofs.SetLaws.{single-is}
-use Rattle.gathered.specs.Positions.{ahead}
-use Rattle.gathered.proofs.PositionLaws.{ahead-is}
 use Rattle.update.specs.Live.{Live}
 use Rattle.update.specs.Listed.{heldFrom, heldBits, HeldAt}
 use Rattle.update.proofs.AtomLaws.{query-decided}
 
 -- one query noted
 module _ (bits w word : ℕ) (h : Bool) where
-  pub noted-held : h ≡ true → word ≡ single w → bitOr bits word ≡ cond h (bitOr bits (single w)) bits
+  pub noted-held : h ≡ true → word ≡ with bits w → word ≡ cond h (with bits w) bits
   noted-held e f = rw (e, f)
 
-  pub noted-not : h ≡ false → bits ≡ cond h (bitOr bits (single w)) bits
+  pub noted-not : h ≡ false → bits ≡ cond h (with bits w) bits
   noted-not e = rw e
 
 pub ruleset noteds = (noted-held, noted-not)
@@ -58,37 +54,39 @@ held-more s q qs i bits = go (holds s q)
     go false = refl
 
 module _ (p : List ℕ) (at count : ℕ) (atoms : List ℕ) where
-  pub noting-start : Noting p at count atoms 0 at 0
+  pub noting-start : Noting p at count atoms 0 (at + 2 * 0) 0
   unfolding Noting
   noting-start s live qs end h =
       let k : count - 0 ≡ count = omega arith in
-      record { rest = qs; rest-read = rw k h; bits-are = or-zero-l (heldBits s qs) }
+      let z : at + 2 * 0 ≡ at = omega arith in
+      record { rest = qs; rest-read = rw (k, z) h; bits-are = or-zero-l (heldBits s qs) }
 
-  module _ (bits next i : ℕ) (inv : Noting p at count atoms bits next i) where
-    pub noting-more : (a q b w more n : ℕ) (h : Bool) → i < count → count ≤ listLimit → a ≡ byte p next → q ≡ ahead p next 1 → b ≡ byte p q
-        → h ≡ within (getD atoms b 0) (getD atoms a 0) → w ≡ i → more ≡ cond h (bitOr bits (single w)) bits → n ≡ ahead p next 2
-        → Noting p at count atoms more n (i + 1)
+  module _ (bits i : ℕ) (inv : Noting p at count atoms bits (at + 2 * i) i) where
+    pub noting-more : (w k more : ℕ) (h : Bool) → i < count → count ≤ listLimit → w ≡ i → h ≡ within (getD atoms (byte p (at + 2 * w + 1)) 0) (getD atoms (byte p (at + 2 * w)) 0) → k ≡ i
+        → more ≡ cond h (with bits k) bits → Noting p at count atoms more (at + 2 * (i + 1)) (i + 1)
     unfolding Noting
-    noting-more a q b w more n h some few ea eq eb eh ew em en s live qs end read =
+    noting-more w k more h some few ew eh ek em s live qs end read =
+        let next : ℕ = at + 2 * i in
         let u = inv s live qs end read in
         let v = many-more (readQuery p (roles s)) (count - i) next (u .rest-read) (omega arith) in
         let x = query-parts p (roles s) next (v .head-read) in
-        let k : count - i - 1 ≡ count - (i + 1) = omega arith in
-        let second : b ≡ byte p (next + 1) = eb ∙ ap (byte p) (eq ∙ ahead-is p next 1 (omega arith)) in
-        let test = query-decided s atoms live p next a b h (v .head) (v .mid) (v .head-read) ea second eh in
-        let word : single w ≡ 2 ^ i = rw ew (single-is i (omega arith)) in
-        let there : n ≡ v .mid = en ∙ ahead-is p next 2 (x .inside) ∙ sym (x .ends) in
+        let less : count - i - 1 ≡ count - (i + 1) = omega arith in
+        let first : byte p (at + 2 * w) ≡ byte p next = ap (λ (x : ℕ). byte p (at + 2 * x)) ew in
+        let second : byte p (at + 2 * w + 1) ≡ byte p (next + 1) = ap (λ (x : ℕ). byte p (at + 2 * x + 1)) ew in
+        let test = query-decided s atoms live p next _ _ h (v .head) (v .mid) (v .head-read) first second eh in
+        let word : more ≡ cond h (with bits i) bits = em ∙ ap (λ (x : ℕ). cond h (with bits x) bits) ek in
+        let there : at + 2 * (i + 1) ≡ v .mid = omega (arith, x .ends) in
         record {
           rest = v .tail;
-          rest-read = rw (there, ← k) (v .tail-read);
-          bits-are = rw (em, word, test, add-one i) (held-more s (v .head) (v .tail) i bits ∙ rw (v .is) at (u .bits-are));
+          rest-read = rw (there, ← less) (v .tail-read);
+          bits-are = rw (word, test, add-one i) (held-more s (v .head) (v .tail) i bits ∙ rw (v .is) at (u .bits-are));
         }
 
     pub noting-done : i ≤ count → count ≤ i → HeldAt p at count atoms bits
     unfolding Noting HeldAt heldFrom
     noting-done l k s live qs end h =
         let u = inv s live qs end h in
-        let v = many-none (readQuery p (roles s)) (count - i) next (u .rest-read) (omega arith) in
+        let v = many-none (readQuery p (roles s)) (count - i) (at + 2 * i) (u .rest-read) (omega arith) in
         sym (or-zero-r bits) ∙ rw (v .0) at (u .bits-are)
 
 pub ruleset notings = (noting-start, noting-more, noting-done)

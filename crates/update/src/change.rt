@@ -1,6 +1,6 @@
 // An update: its mutations in the policy's bytes, the sets of the atoms after them, and whether a listed query broke.
 ghost use mathlib.Core.Path.{_≡_};
-ghost use Prim.Native.Nat.{_≤_};
+ghost use Prim.Native.Nat.{_+_, _*_, _<_, _≤_};
 ghost use lib.ListN.{length, replicate};
 ghost use Rattle.model.specs.Limits.{listLimit};
 ghost use Rattle.model.specs.Policy.{Accepted};
@@ -35,7 +35,7 @@ fn settle_judged(
     atoms: &mut [u32],
     index: &mut [u64],
 ) -> bool
-    requires { ⌜ (Tracked (now policy) (now atoms) (now index)) × (count ≤ listLimit) ⌝ }
+    requires { ⌜ (Tracked (now policy) (now atoms) (now index)) × (count ≤ listLimit) × (listing + 2 * count ≤ length (now program)) ⌝ }
     ensures { λ r. ⌜ Judged (now (program .entry)) listing count (now (policy .entry)) (now (atoms .entry)) (now (atoms .exit)) (now (index .exit)) r ⌝ }
 {
     if index::stale(index) == 0 {
@@ -47,7 +47,7 @@ fn settle_judged(
     !sets::subset(before, after)
 }
 
-// The update where the sets are up to date.
+// The update where the sets are up to date and something is listed.
 fn carry_out_settled(
     program: &[u8],
     at: usize,
@@ -57,7 +57,7 @@ fn carry_out_settled(
     atoms: &mut [u32],
     index: &mut [u64],
 ) -> bool
-    requires { ⌜ (Settled (now policy) (now atoms) (now index)) × (Mutable (now program) (now policy) at) × Listing (now program) (now policy) count listing ⌝ }
+    requires { ⌜ (Settled (now policy) (now atoms) (now index)) × (Mutable (now program) (now policy) at) × (Listing (now program) (now policy) count listing) × (0 < count) ⌝ }
     ensures { λ r. ⌜ CarriedOut (now (program .entry)) (now (policy .entry)) at listing count (now (policy .exit)) (now (atoms .exit)) (now (index .exit)) r ⌝ }
 {
     mutations::mutate_all(program, at, policy, atoms, index);
