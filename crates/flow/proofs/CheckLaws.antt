@@ -24,7 +24,6 @@ use Rattle.model.specs.Flow.{Around as Surroundings, outside, inside, exprLabel
 use Rattle.model.proofs.Accepted.{accepted-facts}
 use Rattle.model.proofs.Reading.{stmt-within}
 use Rattle.model.proofs.Fits.{listed-member}
-use Rattle.model.specs.Sets.{has}
 use Rattle.model.proofs.Sets.{has-zero, in-none, has-or-l, has-or-r, or-has, has-with-same, with-has}
 use Rattle.model.proofs.Standing.{many-none, many-more, mutations-end, stmt-deep, stmt-there, stmt-known, skip-parts, assign-parts, block-parts, if-parts, while-parts, branch-parts, update-parts, transaction-parts}
 use Rattle.program.specs.declared.codes.Atom.{Atom as CodeAtom}

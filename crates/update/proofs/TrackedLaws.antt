@@ -1,7 +1,7 @@
 -- What is tracked of a policy stays right when one of its rows is mutated: the words of the other way round change in one place,
 -- and only principals whose places a mutation can change are stale by it. One proof for members that come or go, one for
 -- taken roles.
-use mathlib.Core.Path.{_≡_, refl, sym, ap, _∙_}
+use mathlib.Core.Path.{_≡_, sym, ap, _∙_}
 use Prim.Native.Nat.{ℕ, _+_, _<_, _≤_}
 use mathlib.Core.Logic.{⊎-elim}
 use mathlib.Core.List.{List}

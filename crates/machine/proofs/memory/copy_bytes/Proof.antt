@@ -1,8 +1,5 @@
-use Prim.Native.Nat.{_≤_, _-_, _*_}
-use mathlib.Core.Path.{_≡_}
+use Prim.Native.Nat.{_≤_, _-_}
 use lib.ListN.{length, getD}
-use Rattle.model.specs.Value.{valueAt}
-use Rattle.model.proofs.Memory.{stored}
 use Rattle.machine.proofs.MemoryLaws.{Filled, copies}
 use borrow.Author.Needs.{needs}
 use Rattle.machine.proofs.memory.copy_bytes.Statement.{statement}

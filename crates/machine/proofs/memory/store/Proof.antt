@@ -1,9 +1,8 @@
 use Prim.Native.Nat.{_≤_, _-_, _*_}
 use mathlib.Core.Path.{_≡_}
-use lib.ListN.{length, getD}
-use Rattle.model.specs.Value.{valueAt}
+use lib.ListN.{length}
 use Rattle.model.proofs.Memory.{stored}
-use Rattle.machine.proofs.MemoryLaws.{Filled, stores}
+use Rattle.machine.proofs.MemoryLaws.{stores}
 use borrow.Author.Needs.{needs}
 use Rattle.machine.proofs.memory.store.Statement.{statement}
 use Rattle.machine.proofs.memory.store.Tie as tie
