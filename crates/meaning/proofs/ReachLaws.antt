@@ -3,23 +3,25 @@ use mathlib.Core.Path.{_≡_, refl, sym, ap, _∙_}
 use mathlib.Core.Logic.{_⊎_, inl, inr, ⊎-elim}
 use Prim.Native.Nat.{ℕ, _+_, _-_, _/_, _^_, _<_, _≤_}
 use mathlib.Core.List.{List}
-use mathlib.Core.Bool.{true, false}
+use mathlib.Core.Bool.{Bool, true, false, cond, true≢false}
 use native.Mathlib.Omega.{arith}
-use lib.Bits.{bitOr, bitXor, or-lt, xor-zero-r}
+use lib.Bits.{bitOr, bitXor, or-lt}
 use lib.ListN.{length, getD, set, length-set}
 use lib.Pow.{pow-lt, shr-shr}
 use lib.Seq.{getD-set-same, getD-set-other, ext-getD}
 use Rattle.model.specs.Limits.{roleLimit}
-use Rattle.model.specs.Sets.{has, with}
+use Rattle.model.specs.Sets.{has, with, without}
 use Rattle.model.specs.Policy.{roles, HasRow, members, takes, Accepted}
 use Rattle.model.specs.Meaning.{meanings, meaning}
 use Rattle.model.proofs.Accepted.{accepted-facts}
 use Rattle.model.proofs.Rows.{accepted-row}
-use Rattle.model.proofs.Sets.{in-not, in-none, has-or-l, has-or-r, or-has, or-grows, has-below, power-is, power-in, has-with-same, with-has, with-below, xor-has, xor-none, subset-le, same-sets}
+use Rattle.model.proofs.Sets.{in-not, in-none, has-or-l, has-or-r, or-has, or-grows, has-below, power-is, power-in, has-with-same, with-has, with-below, xor-has, xor-in, xor-none, subset-le, same-sets, has-without, without-has}
+use Rattle.model.proofs.Truth.{true-or-false}
 use Rattle.model.proofs.Least.{meaning-closed, meaning-least}
 use Rattle.policy.proofs.TakesLaws.{same-or}
 use Rattle.meaning.proofs.MeaningLaws.{meanings-length}
-use Rattle.meaning.specs.Reach.{Reached, Found, Searches}
+use Rattle.shared.proofs.SetLaws.{fewer, next-without}
+use Rattle.meaning.specs.Reach.{Reached, Found, United, Searches}
 
 -- a search begins with the role itself
 pub begun : (s : List ℕ) (r one : ℕ) → r < roles s → one ≡ with 0 r → Reached s r one 0 0
@@ -76,9 +78,6 @@ module _ (s : List ℕ) (r seen done bits : ℕ) (h : Reached s r seen done bits
     left-inside : j < roles s
     left-inside = has-below (roles s) seen j (h .inside) (left-in .0)
 
-    pub left-row : Accepted s → HasRow s j
-    left-row ok = accepted-row s ok (roles s) j refl left-inside
-
     -- once it is done with it, fewer are left
     left-fewer : (done′ : ℕ) → has done′ j ≡ true → 2 ^ roles s - bitOr done done′ < 2 ^ roles s - done
     left-fewer done′ d = omega (arith, subset-le done seen (h .done-seen), h .inside, or-grows done done′ j d (left-in .1))
@@ -89,6 +88,18 @@ module _ (s : List ℕ) (r seen done bits : ℕ) (h : Reached s r seen done bits
     own = λ j q l o d. h .done-own j q d o;
     taken = λ j k q l i t f d. f (rw e at (h .done-taken j k d t));
   }) r p m (rw e at (h .start)))
+
+none-has : (j : ℕ) → has 0 j ≡ false
+none-has j = ⊎-elim (λ h. in-none j h) (λ h. h) (true-or-false (has 0 j))
+
+-- a choice that is true where its condition holds
+true-cond : (a b : Bool) → (a ≡ true → b ≡ true) → cond a b true ≡ true
+true-cond true b f = f refl
+true-cond false b f = refl
+
+cond-true : (a b : Bool) → a ≡ true → cond a b true ≡ true → b ≡ true
+cond-true true b e f = f
+cond-true false b e f = absurd (true≢false (sym e))
 
 -- what is left, as the code has it: all, or from some role on
 module _ (seen done left : ℕ) where
@@ -104,20 +115,92 @@ module _ (seen done left : ℕ) where
 pub left-whole : (s : List ℕ) (r seen done bits left : ℕ) → Reached s r seen done bits → left ≡ bitXor seen done → left ≤ 0 → bits ≡ meaning s r
 left-whole s r seen done bits left h e z = whole s r seen done bits h (left-none seen done left e z)
 
--- one role's set, row by row
-pub set-begun : (one : ℕ) → one ≡ bitXor one 0
-set-begun one = sym (xor-zero-r one)
+-- what some roles have is put together, row by row
+module _ (f : ℕ → ℕ) (some : ℕ) where
+  pub united-none : (old : ℕ) → United f some some old old
+  united-none old = record {
+    kept = λ k h. h;
+    added = λ j k h n. in-not some j h n;
+    least = λ H a b k h. a k h;
+    below = λ n l g. l;
+  }
 
-module _ (s : List ℕ) (r seen done bits left j done′ : ℕ) (h : Reached s r seen done bits) (e : left ≡ bitXor seen done) (m : has left j ≡ true) (d : done′ ≡ with done j) where
-  pub set-turn : Accepted s → (takes′ row members′ : ℕ) → takes′ ≡ takes s j → row ≡ with takes′ j → members′ ≡ members s j → Reached s r (bitOr seen row) done′ (bitOr bits members′)
-  set-turn ok takes′ row members′ t w b =
-      let k = left-of seen done left e j m in
-      rw (d, w, t, b) (joined s r seen done bits h j _ _ _ (left-in s r seen done bits h j k .0) (row-reached s ok j (left-inside s r seen done bits h j k)))
+  module _ (rest old new : ℕ) (u : United f some rest old new) where
+    pub united-turn : (j x next : ℕ) → has some j ≡ true → x ≡ f j → next ≡ without rest j → United f some next old (bitOr new x)
+    united-turn j x next m e w = rw (e, w) (record {
+      kept = λ k h. has-or-l new (f j) k (u .kept k h);
+      added = λ i k h n t. ⊎-elim (λ q. has-or-r new (f j) k (rw q at t)) (λ q. has-or-l new (f j) k (u .added i k h (not-rest i q n) t)) (same-or i j);
+      least = λ H a b k h. ⊎-elim (λ g. u .least H a b k g) (λ g. b j k m g) (or-has new (f j) k h);
+      below = λ n l g. or-lt n new (f j) (u .below n l g) (g j m);
+    })
+      where
+        not-rest : (i : ℕ) → (i ≡ j → ⊥) → has (without rest j) i ≡ false → has rest i ≡ false
+        not-rest i q n = ⊎-elim (λ h. in-not (without rest j) i (has-without rest j i h q) n) (λ h. h) (true-or-false (has rest i))
 
-  pub set-fewer : 2 ^ roles s - done′ < 2 ^ roles s - done
-  set-fewer = rw d (left-fewer s r seen done bits h j (left-of seen done left e j m) (2 ^ j) (power-in j))
+    pub united-all : rest ≤ 0 → United f some 0 old new
+    united-all z = let e : 0 ≡ rest = omega arith in rw e u
 
-pub ruleset set-laws = (role-small, begun, left-of, left-row, set-begun, set-turn, set-fewer, left-whole)
+-- the roles that are left lie among some
+pub record Rest (some rest : ℕ) : Type 0 where
+  pub among : (j : ℕ) → has rest j ≡ true → has some j ≡ true
+
+pub rest-all : (some : ℕ) → Rest some some
+rest-all some = record { among = λ j h. h }
+
+module _ (some rest : ℕ) (x : Rest some rest) where
+  pub rest-less : (j next : ℕ) → next ≡ without rest j → Rest some next
+  rest-less j next w = rw w (record { among = λ i h. x .among i (without-has rest j i h .0) })
+
+  module _ (j : ℕ) (m : has rest j ≡ true) where
+    pub rest-has : has some j ≡ true
+    rest-has = x .among j m
+
+    pub rest-row : (s : List ℕ) → Accepted s → some < 2 ^ roles s → HasRow s j
+    rest-row s ok l = accepted-row s ok (roles s) j refl (has-below (roles s) some j l (x .among j m))
+
+pub ruleset row-laws = (united-none, united-turn, united-all, rest-all, rest-less, rest-has, rest-row, fewer, next-without)
+
+-- a search is done with all that was left, once what these take in is seen and their members are added
+module _ (s : List ℕ) (ok : Accepted s) (r seen done bits new : ℕ) (h : Reached s r seen done bits) (e : new ≡ bitXor seen done) where
+  left-seen : (j : ℕ) → has new j ≡ true → has seen j ≡ true
+  left-seen j m = left-in s r seen done bits h j (rw e at m) .0
+
+  left-role : (j : ℕ) → has new j ≡ true → j < roles s
+  left-role j m = has-below (roles s) seen j (h .inside) (left-seen j m)
+
+  pub new-inside : new < 2 ^ roles s
+  new-inside = omega (arith, subset-le new seen left-seen, h .inside)
+
+  left-or : (j : ℕ) → has seen j ≡ true → (has done j ≡ true) ⊎ (has new j ≡ true)
+  left-or j m = ⊎-elim inl (λ n. inr (rw e (xor-in seen done j m n))) (true-or-false (has done j))
+
+  pub round : (seen′ bits′ : ℕ) → United (takes s) new 0 seen seen′ → United (members s) new 0 bits bits′ → Reached s r seen′ seen bits′
+  round seen′ bits′ t m = record {
+    start = t .kept r (h .start);
+    inside = t .below (roles s) (h .inside) (λ j k. accepted-facts s ok .row j (left-role j k) .takes-below);
+    done-seen = λ j d. t .kept j d;
+    seen-means = λ k p. means k p;
+    bits-means = m .least (λ p. has (meaning s r) p) (h .bits-means) (λ j p k o. h .seen-means j p (left-seen j k) (meaning-closed s .own j p (left-role j k) o));
+    done-own = λ j p d o. ⊎-elim (λ a. m .kept p (h .done-own j p a o)) (λ a. m .added j p a (none-has j) o) (left-or j d);
+    done-taken = λ j k d q. ⊎-elim (λ a. t .kept k (h .done-taken j k a q)) (λ a. t .added j k a (none-has j) q) (left-or j d);
+  }
+    where
+      means : (k p : ℕ) → has seen′ k ≡ true → has (meaning s k) p ≡ true → has (meaning s r) p ≡ true
+      means k p a b = cond-true (has (meaning s k) p) (has (meaning s r) p) b
+          (t .least (λ i. cond (has (meaning s i) p) (has (meaning s r) p) true)
+          (λ i q. true-cond (has (meaning s i) p) (has (meaning s r) p) (h .seen-means i p q))
+          (λ j i q g. true-cond (has (meaning s i) p) (has (meaning s r) p) (λ v. h .seen-means j p (left-seen j q) (meaning-closed s .taken j i p (left-role j q) (has-below (roles s) (takes s j) i (accepted-facts s ok .row j (left-role j q) .takes-below) g) g v)))
+          k a)
+
+module _ (s : List ℕ) (r seen done bits : ℕ) (h : Reached s r seen done bits) where
+  -- each round is done with more
+  pub round-more : done < seen → 2 ^ roles s - seen < 2 ^ roles s - done
+  round-more l = omega (arith, h .inside)
+
+  pub round-last : seen ≤ done → bits ≡ meaning s r
+  round-last l = whole s r seen done bits h (omega (arith, subset-le done seen (h .done-seen)))
+
+pub ruleset set-laws = (role-small, begun, new-inside, round, round-more, round-last)
 
 -- what was put into a place
 set-here : (l : List ℕ) (i r x : ℕ) → i < length l → r ≡ i → getD (set l i x) r 0 ≡ x

@@ -179,6 +179,9 @@ bit-xor a b i = rw (xor-shr a b i) (omega (arith, xor-step (a / 2 ^ i) (b / 2 ^ 
 pub xor-has : (a b i : ℕ) → (has b i ≡ true → has a i ≡ true) → has (bitXor a b) i ≡ true → (has a i ≡ true) × (has b i ≡ false)
 xor-has a b i f h = ⊎-elim (λ y. absurd (let k = f y in omega (bits, bit-xor a b i))) (λ n. (omega (bits, bit-xor a b i), n)) (true-or-false (has b i))
 
+pub xor-in : (a b i : ℕ) → has a i ≡ true → has b i ≡ false → has (bitXor a b) i ≡ true
+xor-in a b i h n = omega (bits, bit-xor a b i)
+
 -- taking a member's power off flips its bit
 minus-xor : (a i : ℕ) → has a i ≡ true → a - 2 ^ i ≡ bitXor a (2 ^ i)
 minus-xor a i h =
