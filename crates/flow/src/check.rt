@@ -38,7 +38,7 @@ fn numbered(number: u32, at: usize, next: usize) -> u64
 
 // Context and expression label are at most the variable's label.
 fn check_assign(
-    program: &[u8],
+    program: &&[u8],
     table: &[u64; table::TABLE_WORDS],
     readers: u64,
     trusters: u64,
@@ -46,42 +46,42 @@ fn check_assign(
     at: usize,
 ) -> u64
     requires { ⌜ length (now table) ≡ tableWords ⌝ }
-    ensures { λ r. ⌜ AssignAt (now (program .entry)) (now (table .entry)) (labelsOf readers trusters asked) at r ⌝ }
+    ensures { λ r. ⌜ AssignAt (now (now (program .entry))) (now (table .entry)) (labelsOf readers trusters asked) at r ⌝ }
 {
-    let target = bytes::byte_at(program, positions::ahead(program, at, 1));
+    let target = bytes::byte_at(*program, positions::ahead(*program, at, 1));
     let mut labels = [readers, trusters];
     let next = labels::expr_labels(
-        &program[..],
+        program,
         limit::EXPRESSION_DEPTH,
-        positions::ahead(program, at, 2),
+        positions::ahead(*program, at, 2),
         &mut labels,
     );
-    let number = judge::assign_number(program, table, labels[0], labels[1], asked, target);
+    let number = judge::assign_number(*program, table, labels[0], labels[1], asked, target);
     numbered(number, at, next)
 }
 
 // An update in a transaction adds only what the policy file allows. The context joined with the labels of all listed queries
 // is at most all that the transaction writes.
 fn check_granted(
-    policy: &[u8],
-    program: &[u8],
+    policy: &&[u8],
+    program: &&[u8],
     around: &[u64; around::WORDS],
     readers: u64,
     trusters: u64,
     asked: u64,
     at: usize,
 ) -> u64
-    requires { ⌜ (Accepted (now policy)) × (length (now around) ≡ aroundWords) × (aroundOf (now around) .inside ≡ true) ⌝ }
-    ensures { λ r. ⌜ UpdateAt (now (policy .entry)) (now (program .entry)) (contextOf (now (around .entry)) readers trusters asked) at r ⌝ }
+    requires { ⌜ (Accepted (now (now policy))) × (length (now around) ≡ aroundWords) × (aroundOf (now around) .inside ≡ true) ⌝ }
+    ensures { λ r. ⌜ UpdateAt (now (now (policy .entry))) (now (now (program .entry))) (contextOf (now (around .entry)) readers trusters asked) at r ⌝ }
 {
-    let count = bytes::byte_at(program, positions::ahead(program, at, 1));
-    if lists::all_allowed(policy, program, count, positions::ahead(program, at, 2)) {
+    let count = bytes::byte_at(*program, positions::ahead(*program, at, 1));
+    if lists::all_allowed(*policy, *program, count, positions::ahead(*program, at, 2)) {
         let named = around::named_of(around) | asked;
         let number = judge::update_number(around, readers, trusters, named);
         return numbered(
             number,
             at,
-            positions::after_list(program, at, positions::MUTATION_BYTES),
+            positions::after_list(*program, at, positions::MUTATION_BYTES),
         );
     }
     answer::refused(number::FLOW_GRANT, at)
@@ -89,16 +89,16 @@ fn check_granted(
 
 // Only in a transaction.
 fn check_update(
-    policy: &[u8],
-    program: &[u8],
+    policy: &&[u8],
+    program: &&[u8],
     around: &[u64; around::WORDS],
     readers: u64,
     trusters: u64,
     asked: u64,
     at: usize,
 ) -> u64
-    requires { ⌜ (Accepted (now policy)) × (length (now around) ≡ aroundWords) ⌝ }
-    ensures { λ r. ⌜ UpdateAt (now (policy .entry)) (now (program .entry)) (contextOf (now (around .entry)) readers trusters asked) at r ⌝ }
+    requires { ⌜ (Accepted (now (now policy))) × (length (now around) ≡ aroundWords) ⌝ }
+    ensures { λ r. ⌜ UpdateAt (now (now (policy .entry))) (now (now (program .entry))) (contextOf (now (around .entry)) readers trusters asked) at r ⌝ }
 {
     if around::is_inside(around) {
         return check_granted(policy, program, around, readers, trusters, asked, at);
@@ -127,10 +127,10 @@ fn enter(
     let list = positions::ahead(program, at, 2);
     let body = positions::after_list(program, at, positions::QUERY_BYTES);
     let mut written = [0u64; 2];
-    let _ = writes::stmt_writes(&program[..], depth, body, &mut written);
-    let named = lists::list_roles(&program[..], count, list);
-    let reading = judge::meet_of(&program[..], table, false, written[0], written[1]);
-    let trust = judge::meet_of(&program[..], table, true, written[0], written[1]);
+    let _ = writes::stmt_writes(&program, depth, body, &mut written);
+    let named = lists::list_roles(program, count, list);
+    let reading = judge::meet_of(program, table, false, written[0], written[1]);
+    let trust = judge::meet_of(program, table, true, written[0], written[1]);
     let free = judge::held_number(
         reading,
         trust,
@@ -157,8 +157,8 @@ fn enter(
 
 // Where no statement stands any answer is right.
 pub fn check_stmt(
-    policy: &[u8],
-    program: &[u8],
+    policy: &&[u8],
+    program: &&[u8],
     table: &[u64; table::TABLE_WORDS],
     around: &[u64; around::WORDS],
     readers: u64,
@@ -167,21 +167,21 @@ pub fn check_stmt(
     depth: u8,
     at: usize,
 ) -> u64
-    requires { ⌜ Ready (now policy) (now table) (now around) ⌝ }
-    ensures { λ r. ⌜ CheckedAt (now (policy .entry)) (now (program .entry)) (now (table .entry)) (contextOf (now (around .entry)) readers trusters asked) depth at r ⌝ }
+    requires { ⌜ Ready (now (now policy)) (now table) (now around) ⌝ }
+    ensures { λ r. ⌜ CheckedAt (now (now (policy .entry))) (now (now (program .entry))) (now (table .entry)) (contextOf (now (around .entry)) readers trusters asked) depth at r ⌝ }
 {
     if depth == 0 {
         return answer::refused(number::PROGRAM_DEPTH, at);
     }
-    let StatementOf::Is(code) = positions::statement_at(program, at) else {
+    let StatementOf::Is(code) = positions::statement_at(*program, at) else {
         return answer::refused(number::PROGRAM_CODE, at);
     };
     match code {
-        Statement::Skip => positions::ahead(program, at, 1) as u64,
+        Statement::Skip => positions::ahead(*program, at, 1) as u64,
         Statement::Assign => check_assign(program, table, readers, trusters, asked, at),
         Statement::Block => check_block(
-            &policy[..],
-            &program[..],
+            policy,
+            program,
             table,
             around,
             readers,
@@ -191,8 +191,8 @@ pub fn check_stmt(
             at,
         ),
         Statement::If => check_if(
-            &policy[..],
-            &program[..],
+            policy,
+            program,
             table,
             around,
             readers,
@@ -202,8 +202,8 @@ pub fn check_stmt(
             at,
         ),
         Statement::While => check_while(
-            &policy[..],
-            &program[..],
+            policy,
+            program,
             table,
             around,
             readers,
@@ -213,8 +213,8 @@ pub fn check_stmt(
             at,
         ),
         Statement::Query => check_query(
-            &policy[..],
-            &program[..],
+            policy,
+            program,
             table,
             around,
             readers,
@@ -225,8 +225,8 @@ pub fn check_stmt(
         ),
         Statement::Update => check_update(policy, program, around, readers, trusters, asked, at),
         Statement::Transaction => check_transaction(
-            &policy[..],
-            &program[..],
+            policy,
+            program,
             table,
             around,
             readers,
@@ -240,8 +240,8 @@ pub fn check_stmt(
 
 // A skip is passed over here, since a call would cost more than all else of it.
 fn check_block(
-    policy: &[u8],
-    program: &[u8],
+    policy: &&[u8],
+    program: &&[u8],
     table: &[u64; table::TABLE_WORDS],
     around: &[u64; around::WORDS],
     readers: u64,
@@ -250,20 +250,20 @@ fn check_block(
     depth: u8,
     at: usize,
 ) -> u64
-    requires { ⌜ (Ready (now policy) (now table) (now around)) × (0 < depth) ⌝ }
-    ensures { λ r. ⌜ CodedAt Block (now (policy .entry)) (now (program .entry)) (now (table .entry)) (contextOf (now (around .entry)) readers trusters asked) depth at r ⌝ }
+    requires { ⌜ (Ready (now (now policy)) (now table) (now around)) × (0 < depth) ⌝ }
+    ensures { λ r. ⌜ CodedAt Block (now (now (policy .entry))) (now (now (program .entry))) (now (table .entry)) (contextOf (now (around .entry)) readers trusters asked) depth at r ⌝ }
 {
     let inner = depth - 1;
-    let mut left = bytes::byte_at(program, positions::ahead(program, at, 1));
-    let mut next = positions::ahead(program, at, 2);
+    let mut left = bytes::byte_at(*program, positions::ahead(*program, at, 1));
+    let mut next = positions::ahead(*program, at, 2);
     while 0 < left {
-        if positions::is_skip(program, next) {
-            next = positions::ahead(program, next, 1);
+        if positions::is_skip(*program, next) {
+            next = positions::ahead(*program, next, 1);
             left -= 1;
         } else {
             let one = check_stmt(
-                &policy[..],
-                &program[..],
+                policy,
+                program,
                 table,
                 around,
                 readers,
@@ -285,8 +285,8 @@ fn check_block(
 
 // Two statements, one after the other. The second is often a skip, which is passed over here as in a block.
 fn check_pair(
-    policy: &[u8],
-    program: &[u8],
+    policy: &&[u8],
+    program: &&[u8],
     table: &[u64; table::TABLE_WORDS],
     around: &[u64; around::WORDS],
     readers: u64,
@@ -295,12 +295,12 @@ fn check_pair(
     depth: u8,
     at: usize,
 ) -> u64
-    requires { ⌜ Ready (now policy) (now table) (now around) ⌝ }
-    ensures { λ r. ⌜ PairAt (now (policy .entry)) (now (program .entry)) (now (table .entry)) (contextOf (now (around .entry)) readers trusters asked) depth at r ⌝ }
+    requires { ⌜ Ready (now (now policy)) (now table) (now around) ⌝ }
+    ensures { λ r. ⌜ PairAt (now (now (policy .entry))) (now (now (program .entry))) (now (table .entry)) (contextOf (now (around .entry)) readers trusters asked) depth at r ⌝ }
 {
     let one = check_stmt(
-        &policy[..],
-        &program[..],
+        policy,
+        program,
         table,
         around,
         readers,
@@ -313,12 +313,12 @@ fn check_pair(
         return one;
     }
     let mid = one as usize;
-    if positions::is_skip(program, mid) {
-        return positions::ahead(program, mid, 1) as u64;
+    if positions::is_skip(*program, mid) {
+        return positions::ahead(*program, mid, 1) as u64;
     }
     check_stmt(
-        &policy[..],
-        &program[..],
+        policy,
+        program,
         table,
         around,
         readers,
@@ -331,8 +331,8 @@ fn check_pair(
 
 // The branches are checked with the expression's label joined to the context.
 fn check_if(
-    policy: &[u8],
-    program: &[u8],
+    policy: &&[u8],
+    program: &&[u8],
     table: &[u64; table::TABLE_WORDS],
     around: &[u64; around::WORDS],
     readers: u64,
@@ -341,19 +341,19 @@ fn check_if(
     depth: u8,
     at: usize,
 ) -> u64
-    requires { ⌜ (Ready (now policy) (now table) (now around)) × (0 < depth) ⌝ }
-    ensures { λ r. ⌜ CodedAt If (now (policy .entry)) (now (program .entry)) (now (table .entry)) (contextOf (now (around .entry)) readers trusters asked) depth at r ⌝ }
+    requires { ⌜ (Ready (now (now policy)) (now table) (now around)) × (0 < depth) ⌝ }
+    ensures { λ r. ⌜ CodedAt If (now (now (policy .entry))) (now (now (program .entry))) (now (table .entry)) (contextOf (now (around .entry)) readers trusters asked) depth at r ⌝ }
 {
     let mut labels = [readers, trusters];
     let next = labels::expr_labels(
-        &program[..],
+        program,
         limit::EXPRESSION_DEPTH,
-        positions::ahead(program, at, 1),
+        positions::ahead(*program, at, 1),
         &mut labels,
     );
     check_pair(
-        &policy[..],
-        &program[..],
+        policy,
+        program,
         table,
         around,
         labels[0],
@@ -366,8 +366,8 @@ fn check_if(
 
 // So is the body.
 fn check_while(
-    policy: &[u8],
-    program: &[u8],
+    policy: &&[u8],
+    program: &&[u8],
     table: &[u64; table::TABLE_WORDS],
     around: &[u64; around::WORDS],
     readers: u64,
@@ -376,19 +376,19 @@ fn check_while(
     depth: u8,
     at: usize,
 ) -> u64
-    requires { ⌜ (Ready (now policy) (now table) (now around)) × (0 < depth) ⌝ }
-    ensures { λ r. ⌜ CodedAt While (now (policy .entry)) (now (program .entry)) (now (table .entry)) (contextOf (now (around .entry)) readers trusters asked) depth at r ⌝ }
+    requires { ⌜ (Ready (now (now policy)) (now table) (now around)) × (0 < depth) ⌝ }
+    ensures { λ r. ⌜ CodedAt While (now (now (policy .entry))) (now (now (program .entry))) (now (table .entry)) (contextOf (now (around .entry)) readers trusters asked) depth at r ⌝ }
 {
     let mut labels = [readers, trusters];
     let next = labels::expr_labels(
-        &program[..],
+        program,
         limit::EXPRESSION_DEPTH,
-        positions::ahead(program, at, 1),
+        positions::ahead(*program, at, 1),
         &mut labels,
     );
     check_stmt(
-        &policy[..],
-        &program[..],
+        policy,
+        program,
         table,
         around,
         labels[0],
@@ -403,8 +403,8 @@ fn check_while(
 // that the table knows already needs no table of its own: so however deep queries nest, no more tables are held at once than a
 // transaction lists queries.
 fn check_query(
-    policy: &[u8],
-    program: &[u8],
+    policy: &&[u8],
+    program: &&[u8],
     table: &[u64; table::TABLE_WORDS],
     around: &[u64; around::WORDS],
     readers: u64,
@@ -413,24 +413,24 @@ fn check_query(
     depth: u8,
     at: usize,
 ) -> u64
-    requires { ⌜ (Ready (now policy) (now table) (now around)) × (0 < depth) ⌝ }
-    ensures { λ r. ⌜ CodedAt Query (now (policy .entry)) (now (program .entry)) (now (table .entry)) (contextOf (now (around .entry)) readers trusters asked) depth at r ⌝ }
+    requires { ⌜ (Ready (now (now policy)) (now table) (now around)) × (0 < depth) ⌝ }
+    ensures { λ r. ⌜ CodedAt Query (now (now (policy .entry))) (now (now (program .entry))) (now (table .entry)) (contextOf (now (around .entry)) readers trusters asked) depth at r ⌝ }
 {
     let inner = depth - 1;
     if around::is_inside(around) {
-        let query = positions::ahead(program, at, 1);
+        let query = positions::ahead(*program, at, 1);
         if lists::is_listed(
-            &program[..],
+            *program,
             around::count_of(around),
             around::list_of(around),
             query,
         ) {
-            let named = lists::query_roles(&program[..], query) | asked;
-            let start = positions::ahead(program, at, 3);
+            let named = lists::query_roles(*program, query) | asked;
+            let start = positions::ahead(*program, at, 3);
             if around::is_free(around) {
                 return check_pair(
-                    &policy[..],
-                    &program[..],
+                    policy,
+                    program,
                     table,
                     around,
                     readers,
@@ -440,10 +440,10 @@ fn check_query(
                     start,
                 );
             }
-            if lists::is_known(program, table, query) {
+            if lists::is_known(*program, table, query) {
                 return check_branches(
-                    &policy[..],
-                    &program[..],
+                    policy,
+                    program,
                     table,
                     table,
                     around,
@@ -456,8 +456,8 @@ fn check_query(
                 );
             }
             return check_learnt(
-                &policy[..],
-                &program[..],
+                policy,
+                program,
                 table,
                 around,
                 readers,
@@ -475,8 +475,8 @@ fn check_query(
 
 // The branches of the query that stands at `query`, which the table does not know: the first has a table that does.
 fn check_learnt(
-    policy: &[u8],
-    program: &[u8],
+    policy: &&[u8],
+    program: &&[u8],
     table: &[u64; table::TABLE_WORDS],
     around: &[u64; around::WORDS],
     readers: u64,
@@ -486,17 +486,17 @@ fn check_learnt(
     at: usize,
     query: usize,
 ) -> u64
-    requires { ⌜ Ready (now policy) (now table) (now around) ⌝ }
-    ensures { λ r. ⌜ BranchesOf (now (policy .entry)) (now (program .entry)) (now (table .entry)) (contextOf (now (around .entry)) readers trusters asked) depth at query r ⌝ }
+    requires { ⌜ Ready (now (now policy)) (now table) (now around) ⌝ }
+    ensures { λ r. ⌜ BranchesOf (now (now (policy .entry))) (now (now (program .entry))) (now (table .entry)) (contextOf (now (around .entry)) readers trusters asked) depth at query r ⌝ }
 {
-    let QueryOf::Is(first, second) = lists::query_at(program, query) else {
+    let QueryOf::Is(first, second) = lists::query_at(*program, query) else {
         return answer::refused(number::PROGRAM_CODE, query);
     };
     let mut learnt = *table;
-    order::learn::learn(&mut learnt, rows::roles_of(policy), first, second);
+    order::learn::learn(&mut learnt, rows::roles_of(*policy), first, second);
     check_held(
-        &policy[..],
-        &program[..],
+        policy,
+        program,
         &learnt,
         table,
         around,
@@ -510,8 +510,8 @@ fn check_learnt(
 
 // The same with that table: an update in the first branch is held to what it gives.
 fn check_held(
-    policy: &[u8],
-    program: &[u8],
+    policy: &&[u8],
+    program: &&[u8],
     learnt: &[u64; table::TABLE_WORDS],
     table: &[u64; table::TABLE_WORDS],
     around: &[u64; around::WORDS],
@@ -521,13 +521,13 @@ fn check_held(
     depth: u8,
     at: usize,
 ) -> u64
-    requires { ⌜ (Ready (now policy) (now learnt) (now around)) × (Ready (now policy) (now table) (now around)) ⌝ }
-    ensures { λ r. ⌜ LearntAt (now (policy .entry)) (now (program .entry)) (now (learnt .entry)) (now (table .entry)) (contextOf (now (around .entry)) readers trusters asked) depth at r ⌝ }
+    requires { ⌜ (Ready (now (now policy)) (now learnt) (now around)) × (Ready (now (now policy)) (now table) (now around)) ⌝ }
+    ensures { λ r. ⌜ LearntAt (now (now (policy .entry))) (now (now (program .entry))) (now (learnt .entry)) (now (table .entry)) (contextOf (now (around .entry)) readers trusters asked) depth at r ⌝ }
 {
-    let known = judge::held(program, learnt, around);
+    let known = judge::held(*program, learnt, around);
     check_branches(
-        &policy[..],
-        &program[..],
+        policy,
+        program,
         learnt,
         table,
         &known,
@@ -542,8 +542,8 @@ fn check_held(
 
 // The first branch also knows the query, by the table `learnt` and the words `known`; the second does not.
 fn check_branches(
-    policy: &[u8],
-    program: &[u8],
+    policy: &&[u8],
+    program: &&[u8],
     learnt: &[u64; table::TABLE_WORDS],
     table: &[u64; table::TABLE_WORDS],
     known: &[u64; around::WORDS],
@@ -554,12 +554,12 @@ fn check_branches(
     depth: u8,
     at: usize,
 ) -> u64
-    requires { ⌜ (Ready (now policy) (now learnt) (now known)) × (Ready (now policy) (now table) (now around)) ⌝ }
-    ensures { λ r. ⌜ BothAt (now (policy .entry)) (now (program .entry)) (now (learnt .entry)) (now (table .entry)) (contextOf (now (known .entry)) readers trusters asked) (contextOf (now (around .entry)) readers trusters asked) depth at r ⌝ }
+    requires { ⌜ (Ready (now (now policy)) (now learnt) (now known)) × (Ready (now (now policy)) (now table) (now around)) ⌝ }
+    ensures { λ r. ⌜ BothAt (now (now (policy .entry))) (now (now (program .entry))) (now (learnt .entry)) (now (table .entry)) (contextOf (now (known .entry)) readers trusters asked) (contextOf (now (around .entry)) readers trusters asked) depth at r ⌝ }
 {
     let one = check_stmt(
-        &policy[..],
-        &program[..],
+        policy,
+        program,
         learnt,
         known,
         readers,
@@ -572,12 +572,12 @@ fn check_branches(
         return one;
     }
     let other = one as usize;
-    if positions::is_skip(program, other) {
-        return positions::ahead(program, other, 1) as u64;
+    if positions::is_skip(*program, other) {
+        return positions::ahead(*program, other, 1) as u64;
     }
     check_stmt(
-        &policy[..],
-        &program[..],
+        policy,
+        program,
         table,
         around,
         readers,
@@ -590,8 +590,8 @@ fn check_branches(
 
 // A transaction holds no transaction.
 fn check_transaction(
-    policy: &[u8],
-    program: &[u8],
+    policy: &&[u8],
+    program: &&[u8],
     table: &[u64; table::TABLE_WORDS],
     around: &[u64; around::WORDS],
     readers: u64,
@@ -600,17 +600,17 @@ fn check_transaction(
     depth: u8,
     at: usize,
 ) -> u64
-    requires { ⌜ (Ready (now policy) (now table) (now around)) × (0 < depth) ⌝ }
-    ensures { λ r. ⌜ CodedAt Transaction (now (policy .entry)) (now (program .entry)) (now (table .entry)) (contextOf (now (around .entry)) readers trusters asked) depth at r ⌝ }
+    requires { ⌜ (Ready (now (now policy)) (now table) (now around)) × (0 < depth) ⌝ }
+    ensures { λ r. ⌜ CodedAt Transaction (now (now (policy .entry))) (now (now (program .entry))) (now (table .entry)) (contextOf (now (around .entry)) readers trusters asked) depth at r ⌝ }
 {
     if around::is_inside(around) {
         return answer::refused(number::FLOW_TRANSACTION, at);
     }
     let inner = depth - 1;
-    let body = positions::after_list(program, at, positions::QUERY_BYTES);
+    let body = positions::after_list(*program, at, positions::QUERY_BYTES);
     let mut inside = [0u64; around::WORDS];
     enter(
-        &program[..],
+        *program,
         table,
         around,
         readers,
@@ -621,8 +621,8 @@ fn check_transaction(
         &mut inside,
     );
     check_stmt(
-        &policy[..],
-        &program[..],
+        policy,
+        program,
         table,
         &inside,
         readers,

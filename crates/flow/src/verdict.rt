@@ -31,14 +31,14 @@ fn body_verdict(policy: &[u8], program: &[u8]) -> Verdict
     order::base::base_table(policy, &mut table);
     let variables = layout::variables_of(program);
     let mut labels = [0u64; 2];
-    labels::all_labels(&program[..], variables, &mut labels);
+    labels::all_labels(program, variables, &mut labels);
     let mut around = [0u64; around::WORDS];
     around[around::READERS] = labels[0];
     around[around::TRUSTERS] = labels[1];
     let start = layout::body_at(variables);
     let checked = check::check_stmt(
-        policy,
-        program,
+        &policy,
+        &program,
         &table,
         &around,
         0,

@@ -52,27 +52,27 @@ pub fn all_labels(program: &[u8], variables: u8, labels: &mut [u64; 2])
 }
 
 // An expression's label joins its variables' labels; constants add nothing. Where no expression stands any answer is right.
-pub fn expr_labels(program: &[u8], depth: u8, at: usize, labels: &mut [u64; 2]) -> usize
+pub fn expr_labels(program: &&[u8], depth: u8, at: usize, labels: &mut [u64; 2]) -> usize
     requires { ⌜ length (now labels) ≡ 2 ⌝ }
-    ensures { λ r. ⌜ LabelsAt (now (program .entry)) depth at (now (labels .entry)) (now (labels .exit)) r ⌝ }
+    ensures { λ r. ⌜ LabelsAt (now (now (program .entry))) depth at (now (labels .entry)) (now (labels .exit)) r ⌝ }
     ensures same { λ _. ⌜ length (now (labels .exit)) ≡ 2 ⌝ }
 {
     if depth == 0 {
         return at;
     }
-    let ExpressionOf::Is(code) = positions::expression_at(program, at) else {
+    let ExpressionOf::Is(code) = positions::expression_at(*program, at) else {
         return at;
     };
-    let next = positions::ahead(program, at, 1);
+    let next = positions::ahead(*program, at, 1);
     match code {
-        Expression::Constant => positions::ahead(program, at, 5),
+        Expression::Constant => positions::ahead(*program, at, 5),
         Expression::Variable => {
-            add_variable(program, bytes::byte_at(program, next), labels);
-            positions::ahead(program, at, 2)
+            add_variable(*program, bytes::byte_at(*program, next), labels);
+            positions::ahead(*program, at, 2)
         }
         Expression::Binary(_) => {
-            let mid = expr_labels(&program[..], depth - 1, next, labels);
-            expr_labels(&program[..], depth - 1, mid, labels)
+            let mid = expr_labels(program, depth - 1, next, labels);
+            expr_labels(program, depth - 1, mid, labels)
         }
     }
 }

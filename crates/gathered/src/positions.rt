@@ -76,21 +76,21 @@ pub fn after_list(program: &[u8], at: usize, size: usize) -> usize
 }
 
 // The position after an expression. Where none stands any position is right.
-pub fn after_expr(program: &[u8], depth: u8, at: usize) -> usize
-    ensures { λ r. ⌜ ExprEnds (now (program .entry)) depth at r ⌝ }
+pub fn after_expr(program: &&[u8], depth: u8, at: usize) -> usize
+    ensures { λ r. ⌜ ExprEnds (now (now (program .entry))) depth at r ⌝ }
 {
     if depth == 0 {
         return at;
     }
-    let ExpressionOf::Is(code) = expression_at(program, at) else {
+    let ExpressionOf::Is(code) = expression_at(*program, at) else {
         return at;
     };
     match code {
-        Expression::Constant => ahead(program, at, 5),
-        Expression::Variable => ahead(program, at, 2),
+        Expression::Constant => ahead(*program, at, 5),
+        Expression::Variable => ahead(*program, at, 2),
         Expression::Binary(_) => {
-            let mid = after_expr(&program[..], depth - 1, ahead(program, at, 1));
-            after_expr(&program[..], depth - 1, mid)
+            let mid = after_expr(program, depth - 1, ahead(*program, at, 1));
+            after_expr(program, depth - 1, mid)
         }
     }
 }

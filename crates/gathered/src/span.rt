@@ -22,7 +22,7 @@ pub fn body_span(policy: &[u8], program: &[u8], k: usize) -> Span
     ensures inside { λ r. ⌜ r .start + r .size ≤ length (now (program .entry)) ⌝ }
 {
     let start = layout::body_at(layout::variables_of(program));
-    let body = bodies::find_body(program, limit::STATEMENT_DEPTH, start, k);
+    let body = bodies::find_body(&program, limit::STATEMENT_DEPTH, start, k);
     Span {
         start: body.start,
         size: body.size,

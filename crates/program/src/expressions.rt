@@ -10,9 +10,9 @@ use super::codes::ExpressionOf;
 use shared::number;
 
 // Too deep is 14 before the code is read.
-pub fn read_expr(program: &[u8], vars: u8, depth: u8, at: usize) -> u64
-    requires { ⌜ Within (now program) at ⌝ }
-    ensures { λ r. ⌜ told r ≡ endOf (readExpr (now (program .entry)) vars depth at) ⌝ }
+pub fn read_expr(program: &&[u8], vars: u8, depth: u8, at: usize) -> u64
+    requires { ⌜ Within (now (now program)) at ⌝ }
+    ensures { λ r. ⌜ told r ≡ endOf (readExpr (now (now (program .entry))) vars depth at) ⌝ }
 {
     if depth == 0 {
         return answer::refused(number::PROGRAM_DEPTH, at);
@@ -31,13 +31,13 @@ pub fn read_expr(program: &[u8], vars: u8, depth: u8, at: usize) -> u64
             }
             (next + 4) as u64
         }
-        Expression::Variable => atoms::read_below(program, vars, next),
+        Expression::Variable => atoms::read_below(*program, vars, next),
         Expression::Binary(_) => {
-            let first = read_expr(&program[..], vars, depth - 1, next);
+            let first = read_expr(program, vars, depth - 1, next);
             if answer::REFUSED <= first {
                 return first;
             }
-            read_expr(&program[..], vars, depth - 1, first as usize)
+            read_expr(program, vars, depth - 1, first as usize)
         }
     }
 }

@@ -35,7 +35,7 @@ fn read_body(program: &[u8], principals: u8, roles: u8, vars: u8, at: usize) -> 
     ensures { λ r. ⌜ told r ≡ endOf (readBody (now (program .entry)) principals roles vars at) ⌝ }
 {
     let body = statements::read_stmt(
-        &program[..],
+        &program,
         principals,
         roles,
         vars,

@@ -64,137 +64,137 @@ use Rattle.flow.proofs.check.+check_block+check_branches+check_held+che
   close,
 }
 
-abbrev μ-check-block : Measures 4 check-block-kinds.ps ℕ
+abbrev μ-check-block : Measures 6 check-block-kinds.ps ℕ
 μ-check-block κs a = 6 * a .1 .1 .1 .1 .1 .1 .1 .0
 
-abbrev μ-check-branches : Measures 6 check-branches-kinds.ps ℕ
+abbrev μ-check-branches : Measures 8 check-branches-kinds.ps ℕ
 μ-check-branches κs a = 6 * a .1 .1 .1 .1 .1 .1 .1 .1 .1 .0 + 2
 
-abbrev μ-check-held : Measures 5 check-held-kinds.ps ℕ
+abbrev μ-check-held : Measures 7 check-held-kinds.ps ℕ
 μ-check-held κs a = 6 * a .1 .1 .1 .1 .1 .1 .1 .1 .0 + 3
 
-abbrev μ-check-if : Measures 4 check-if-kinds.ps ℕ
+abbrev μ-check-if : Measures 6 check-if-kinds.ps ℕ
 μ-check-if κs a = 6 * a .1 .1 .1 .1 .1 .1 .1 .0
 
-abbrev μ-check-learnt : Measures 4 check-learnt-kinds.ps ℕ
+abbrev μ-check-learnt : Measures 6 check-learnt-kinds.ps ℕ
 μ-check-learnt κs a = 6 * a .1 .1 .1 .1 .1 .1 .1 .0 + 4
 
-abbrev μ-check-pair : Measures 4 check-pair-kinds.ps ℕ
+abbrev μ-check-pair : Measures 6 check-pair-kinds.ps ℕ
 μ-check-pair κs a = 6 * a .1 .1 .1 .1 .1 .1 .1 .0 + 2
 
-abbrev μ-check-query : Measures 4 check-query-kinds.ps ℕ
+abbrev μ-check-query : Measures 6 check-query-kinds.ps ℕ
 μ-check-query κs a = 6 * a .1 .1 .1 .1 .1 .1 .1 .0
 
-abbrev μ-check-stmt : Measures 4 check-stmt-kinds.ps ℕ
+abbrev μ-check-stmt : Measures 6 check-stmt-kinds.ps ℕ
 μ-check-stmt κs a = 6 * a .1 .1 .1 .1 .1 .1 .1 .0 + 1
 
-abbrev μ-check-transaction : Measures 4 check-transaction-kinds.ps ℕ
+abbrev μ-check-transaction : Measures 6 check-transaction-kinds.ps ℕ
 μ-check-transaction κs a = 6 * a .1 .1 .1 .1 .1 .1 .1 .0
 
-abbrev μ-check-while : Measures 4 check-while-kinds.ps ℕ
+abbrev μ-check-while : Measures 6 check-while-kinds.ps ℕ
 μ-check-while κs a = 6 * a .1 .1 .1 .1 .1 .1 .1 .0
 
-abbrev check-block-at : ℕ → In 4 check-block-kinds.ps
+abbrev check-block-at : ℕ → In 6 check-block-kinds.ps
 check-block-at t =
-    and 4 check-block-kinds.ps (is 4 check-block-kinds.ps μ-check-block t) check-block.Pre
+    and 6 check-block-kinds.ps (is 6 check-block-kinds.ps μ-check-block t) check-block.Pre
 
-abbrev check-block-below : ℕ → In 4 check-block-kinds.ps
+abbrev check-block-below : ℕ → In 6 check-block-kinds.ps
 check-block-below t =
-    and 4 check-block-kinds.ps (falls 4 check-block-kinds.ps _<_ μ-check-block t) check-block.Pre
+    and 6 check-block-kinds.ps (falls 6 check-block-kinds.ps _<_ μ-check-block t) check-block.Pre
 
-abbrev check-branches-at : ℕ → In 6 check-branches-kinds.ps
+abbrev check-branches-at : ℕ → In 8 check-branches-kinds.ps
 check-branches-at t =
     and
-    6
+    8
     check-branches-kinds.ps
-    (is 6 check-branches-kinds.ps μ-check-branches t)
+    (is 8 check-branches-kinds.ps μ-check-branches t)
     check-branches.Pre
 
-abbrev check-branches-below : ℕ → In 6 check-branches-kinds.ps
+abbrev check-branches-below : ℕ → In 8 check-branches-kinds.ps
 check-branches-below t =
     and
-    6
+    8
     check-branches-kinds.ps
-    (falls 6 check-branches-kinds.ps _<_ μ-check-branches t)
+    (falls 8 check-branches-kinds.ps _<_ μ-check-branches t)
     check-branches.Pre
 
-abbrev check-held-at : ℕ → In 5 check-held-kinds.ps
+abbrev check-held-at : ℕ → In 7 check-held-kinds.ps
 check-held-at t =
-    and 5 check-held-kinds.ps (is 5 check-held-kinds.ps μ-check-held t) check-held.Pre
+    and 7 check-held-kinds.ps (is 7 check-held-kinds.ps μ-check-held t) check-held.Pre
 
-abbrev check-held-below : ℕ → In 5 check-held-kinds.ps
+abbrev check-held-below : ℕ → In 7 check-held-kinds.ps
 check-held-below t =
-    and 5 check-held-kinds.ps (falls 5 check-held-kinds.ps _<_ μ-check-held t) check-held.Pre
+    and 7 check-held-kinds.ps (falls 7 check-held-kinds.ps _<_ μ-check-held t) check-held.Pre
 
-abbrev check-if-at : ℕ → In 4 check-if-kinds.ps
-check-if-at t = and 4 check-if-kinds.ps (is 4 check-if-kinds.ps μ-check-if t) check-if.Pre
+abbrev check-if-at : ℕ → In 6 check-if-kinds.ps
+check-if-at t = and 6 check-if-kinds.ps (is 6 check-if-kinds.ps μ-check-if t) check-if.Pre
 
-abbrev check-if-below : ℕ → In 4 check-if-kinds.ps
+abbrev check-if-below : ℕ → In 6 check-if-kinds.ps
 check-if-below t =
-    and 4 check-if-kinds.ps (falls 4 check-if-kinds.ps _<_ μ-check-if t) check-if.Pre
+    and 6 check-if-kinds.ps (falls 6 check-if-kinds.ps _<_ μ-check-if t) check-if.Pre
 
-abbrev check-learnt-at : ℕ → In 4 check-learnt-kinds.ps
+abbrev check-learnt-at : ℕ → In 6 check-learnt-kinds.ps
 check-learnt-at t =
-    and 4 check-learnt-kinds.ps (is 4 check-learnt-kinds.ps μ-check-learnt t) check-learnt.Pre
+    and 6 check-learnt-kinds.ps (is 6 check-learnt-kinds.ps μ-check-learnt t) check-learnt.Pre
 
-abbrev check-learnt-below : ℕ → In 4 check-learnt-kinds.ps
+abbrev check-learnt-below : ℕ → In 6 check-learnt-kinds.ps
 check-learnt-below t =
     and
-    4
+    6
     check-learnt-kinds.ps
-    (falls 4 check-learnt-kinds.ps _<_ μ-check-learnt t)
+    (falls 6 check-learnt-kinds.ps _<_ μ-check-learnt t)
     check-learnt.Pre
 
-abbrev check-pair-at : ℕ → In 4 check-pair-kinds.ps
+abbrev check-pair-at : ℕ → In 6 check-pair-kinds.ps
 check-pair-at t =
-    and 4 check-pair-kinds.ps (is 4 check-pair-kinds.ps μ-check-pair t) check-pair.Pre
+    and 6 check-pair-kinds.ps (is 6 check-pair-kinds.ps μ-check-pair t) check-pair.Pre
 
-abbrev check-pair-below : ℕ → In 4 check-pair-kinds.ps
+abbrev check-pair-below : ℕ → In 6 check-pair-kinds.ps
 check-pair-below t =
-    and 4 check-pair-kinds.ps (falls 4 check-pair-kinds.ps _<_ μ-check-pair t) check-pair.Pre
+    and 6 check-pair-kinds.ps (falls 6 check-pair-kinds.ps _<_ μ-check-pair t) check-pair.Pre
 
-abbrev check-query-at : ℕ → In 4 check-query-kinds.ps
+abbrev check-query-at : ℕ → In 6 check-query-kinds.ps
 check-query-at t =
-    and 4 check-query-kinds.ps (is 4 check-query-kinds.ps μ-check-query t) check-query.Pre
+    and 6 check-query-kinds.ps (is 6 check-query-kinds.ps μ-check-query t) check-query.Pre
 
-abbrev check-query-below : ℕ → In 4 check-query-kinds.ps
+abbrev check-query-below : ℕ → In 6 check-query-kinds.ps
 check-query-below t =
-    and 4 check-query-kinds.ps (falls 4 check-query-kinds.ps _<_ μ-check-query t) check-query.Pre
+    and 6 check-query-kinds.ps (falls 6 check-query-kinds.ps _<_ μ-check-query t) check-query.Pre
 
-abbrev check-stmt-at : ℕ → In 4 check-stmt-kinds.ps
+abbrev check-stmt-at : ℕ → In 6 check-stmt-kinds.ps
 check-stmt-at t =
-    and 4 check-stmt-kinds.ps (is 4 check-stmt-kinds.ps μ-check-stmt t) check-stmt.Pre
+    and 6 check-stmt-kinds.ps (is 6 check-stmt-kinds.ps μ-check-stmt t) check-stmt.Pre
 
-abbrev check-stmt-below : ℕ → In 4 check-stmt-kinds.ps
+abbrev check-stmt-below : ℕ → In 6 check-stmt-kinds.ps
 check-stmt-below t =
-    and 4 check-stmt-kinds.ps (falls 4 check-stmt-kinds.ps _<_ μ-check-stmt t) check-stmt.Pre
+    and 6 check-stmt-kinds.ps (falls 6 check-stmt-kinds.ps _<_ μ-check-stmt t) check-stmt.Pre
 
-abbrev check-transaction-at : ℕ → In 4 check-transaction-kinds.ps
+abbrev check-transaction-at : ℕ → In 6 check-transaction-kinds.ps
 check-transaction-at t =
     and
-    4
+    6
     check-transaction-kinds.ps
-    (is 4 check-transaction-kinds.ps μ-check-transaction t)
+    (is 6 check-transaction-kinds.ps μ-check-transaction t)
     check-transaction.Pre
 
-abbrev check-transaction-below : ℕ → In 4 check-transaction-kinds.ps
+abbrev check-transaction-below : ℕ → In 6 check-transaction-kinds.ps
 check-transaction-below t =
     and
-    4
+    6
     check-transaction-kinds.ps
-    (falls 4 check-transaction-kinds.ps _<_ μ-check-transaction t)
+    (falls 6 check-transaction-kinds.ps _<_ μ-check-transaction t)
     check-transaction.Pre
 
-abbrev check-while-at : ℕ → In 4 check-while-kinds.ps
+abbrev check-while-at : ℕ → In 6 check-while-kinds.ps
 check-while-at t =
-    and 4 check-while-kinds.ps (is 4 check-while-kinds.ps μ-check-while t) check-while.Pre
+    and 6 check-while-kinds.ps (is 6 check-while-kinds.ps μ-check-while t) check-while.Pre
 
-abbrev check-while-below : ℕ → In 4 check-while-kinds.ps
+abbrev check-while-below : ℕ → In 6 check-while-kinds.ps
 check-while-below t =
-    and 4 check-while-kinds.ps (falls 4 check-while-kinds.ps _<_ μ-check-while t) check-while.Pre
+    and 6 check-while-kinds.ps (falls 6 check-while-kinds.ps _<_ μ-check-while t) check-while.Pre
 
 abbrev check-block-Inv-loop : check-block-lts.InvT-loop
-check-block-Inv-loop policy program table around readers trusters asked depth at inner left₀ next₀ left next = Blocking policy program table (contextOf around readers trusters asked) depth at left next
+check-block-Inv-loop policy program table around readers trusters asked depth at inner left₀ next₀ left next = Blocking (policy .now) (program .now) table (contextOf around readers trusters asked) depth at left next
 
 abbrev check-block-μ-loop : check-block-lts.MeasureT-loop
 check-block-μ-loop policy program table around readers trusters asked depth at inner left₀ next₀ left next = left

@@ -32,67 +32,67 @@ use Rattle.gathered.proofs.bodies.+find_body+find_in_block+find_in_pair
   close,
 }
 
-abbrev μ-find-body : Measures 1 find-body-kinds.ps ℕ
+abbrev μ-find-body : Measures 2 find-body-kinds.ps ℕ
 μ-find-body κs a = 2 * a .1 .0
 
-abbrev μ-find-in-block : Measures 1 find-in-block-kinds.ps ℕ
+abbrev μ-find-in-block : Measures 2 find-in-block-kinds.ps ℕ
 μ-find-in-block κs a = 2 * a .1 .0 + 1
 
-abbrev μ-find-in-pair : Measures 1 find-in-pair-kinds.ps ℕ
+abbrev μ-find-in-pair : Measures 2 find-in-pair-kinds.ps ℕ
 μ-find-in-pair κs a = 2 * a .1 .0 + 1
 
-abbrev μ-find-in-transaction : Measures 1 find-in-transaction-kinds.ps ℕ
+abbrev μ-find-in-transaction : Measures 2 find-in-transaction-kinds.ps ℕ
 μ-find-in-transaction κs a = 2 * a .1 .0 + 1
 
-abbrev find-body-at : ℕ → In 1 find-body-kinds.ps
-find-body-at t = and 1 find-body-kinds.ps (is 1 find-body-kinds.ps μ-find-body t) find-body.Pre
+abbrev find-body-at : ℕ → In 2 find-body-kinds.ps
+find-body-at t = and 2 find-body-kinds.ps (is 2 find-body-kinds.ps μ-find-body t) find-body.Pre
 
-abbrev find-body-below : ℕ → In 1 find-body-kinds.ps
+abbrev find-body-below : ℕ → In 2 find-body-kinds.ps
 find-body-below t =
-    and 1 find-body-kinds.ps (falls 1 find-body-kinds.ps _<_ μ-find-body t) find-body.Pre
+    and 2 find-body-kinds.ps (falls 2 find-body-kinds.ps _<_ μ-find-body t) find-body.Pre
 
-abbrev find-in-block-at : ℕ → In 1 find-in-block-kinds.ps
+abbrev find-in-block-at : ℕ → In 2 find-in-block-kinds.ps
 find-in-block-at t =
-    and 1 find-in-block-kinds.ps (is 1 find-in-block-kinds.ps μ-find-in-block t) find-in-block.Pre
+    and 2 find-in-block-kinds.ps (is 2 find-in-block-kinds.ps μ-find-in-block t) find-in-block.Pre
 
-abbrev find-in-block-below : ℕ → In 1 find-in-block-kinds.ps
+abbrev find-in-block-below : ℕ → In 2 find-in-block-kinds.ps
 find-in-block-below t =
     and
-    1
+    2
     find-in-block-kinds.ps
-    (falls 1 find-in-block-kinds.ps _<_ μ-find-in-block t)
+    (falls 2 find-in-block-kinds.ps _<_ μ-find-in-block t)
     find-in-block.Pre
 
-abbrev find-in-pair-at : ℕ → In 1 find-in-pair-kinds.ps
+abbrev find-in-pair-at : ℕ → In 2 find-in-pair-kinds.ps
 find-in-pair-at t =
-    and 1 find-in-pair-kinds.ps (is 1 find-in-pair-kinds.ps μ-find-in-pair t) find-in-pair.Pre
+    and 2 find-in-pair-kinds.ps (is 2 find-in-pair-kinds.ps μ-find-in-pair t) find-in-pair.Pre
 
-abbrev find-in-pair-below : ℕ → In 1 find-in-pair-kinds.ps
+abbrev find-in-pair-below : ℕ → In 2 find-in-pair-kinds.ps
 find-in-pair-below t =
     and
-    1
+    2
     find-in-pair-kinds.ps
-    (falls 1 find-in-pair-kinds.ps _<_ μ-find-in-pair t)
+    (falls 2 find-in-pair-kinds.ps _<_ μ-find-in-pair t)
     find-in-pair.Pre
 
-abbrev find-in-transaction-at : ℕ → In 1 find-in-transaction-kinds.ps
+abbrev find-in-transaction-at : ℕ → In 2 find-in-transaction-kinds.ps
 find-in-transaction-at t =
     and
-    1
+    2
     find-in-transaction-kinds.ps
-    (is 1 find-in-transaction-kinds.ps μ-find-in-transaction t)
+    (is 2 find-in-transaction-kinds.ps μ-find-in-transaction t)
     find-in-transaction.Pre
 
-abbrev find-in-transaction-below : ℕ → In 1 find-in-transaction-kinds.ps
+abbrev find-in-transaction-below : ℕ → In 2 find-in-transaction-kinds.ps
 find-in-transaction-below t =
     and
-    1
+    2
     find-in-transaction-kinds.ps
-    (falls 1 find-in-transaction-kinds.ps _<_ μ-find-in-transaction t)
+    (falls 2 find-in-transaction-kinds.ps _<_ μ-find-in-transaction t)
     find-in-transaction.Pre
 
 abbrev find-in-block-Inv-loop : find-in-block-lts.InvT-loop
-find-in-block-Inv-loop program depth at k statements₀ next₀ left₀ statements next left = Searching program depth at k statements next left
+find-in-block-Inv-loop program depth at k statements₀ next₀ left₀ statements next left = Searching (program .now) depth at k statements next left
 
 abbrev find-in-block-μ-loop : find-in-block-lts.MeasureT-loop
 find-in-block-μ-loop program depth at k statements₀ next₀ left₀ statements next left = statements

@@ -15,16 +15,16 @@ use Rattle.shared.proofs.bytes.byte_at.Reads as byte-at-reads
 use Rattle.gathered.proofs.labels.+expr_labels.{statement}
 use Rattle.gathered.proofs.labels.+expr_labels.Tie.{close}
 
-abbrev μ-expr-labels : Measures 2 expr-labels-kinds.ps ℕ
+abbrev μ-expr-labels : Measures 3 expr-labels-kinds.ps ℕ
 μ-expr-labels κs a = a .1 .0
 
-abbrev expr-labels-at : ℕ → In 2 expr-labels-kinds.ps
+abbrev expr-labels-at : ℕ → In 3 expr-labels-kinds.ps
 expr-labels-at t =
-    and 2 expr-labels-kinds.ps (is 2 expr-labels-kinds.ps μ-expr-labels t) expr-labels.Pre
+    and 3 expr-labels-kinds.ps (is 3 expr-labels-kinds.ps μ-expr-labels t) expr-labels.Pre
 
-abbrev expr-labels-below : ℕ → In 2 expr-labels-kinds.ps
+abbrev expr-labels-below : ℕ → In 3 expr-labels-kinds.ps
 expr-labels-below t =
-    and 2 expr-labels-kinds.ps (falls 2 expr-labels-kinds.ps _<_ μ-expr-labels t) expr-labels.Pre
+    and 3 expr-labels-kinds.ps (falls 3 expr-labels-kinds.ps _<_ μ-expr-labels t) expr-labels.Pre
 
 pub +expr-labels-spec : {M : Type 1} → statement M
 +expr-labels-spec = close μ-expr-labels λ t. expr-labels-lts.spec (

@@ -12,16 +12,16 @@ use Rattle.gathered.proofs.positions.expression_at.Reads as expression-
 use Rattle.gathered.proofs.positions.+after_expr.{statement}
 use Rattle.gathered.proofs.positions.+after_expr.Tie.{close}
 
-abbrev μ-after-expr : Measures 1 after-expr-kinds.ps ℕ
+abbrev μ-after-expr : Measures 2 after-expr-kinds.ps ℕ
 μ-after-expr κs a = a .1 .0
 
-abbrev after-expr-at : ℕ → In 1 after-expr-kinds.ps
+abbrev after-expr-at : ℕ → In 2 after-expr-kinds.ps
 after-expr-at t =
-    and 1 after-expr-kinds.ps (is 1 after-expr-kinds.ps μ-after-expr t) after-expr.Pre
+    and 2 after-expr-kinds.ps (is 2 after-expr-kinds.ps μ-after-expr t) after-expr.Pre
 
-abbrev after-expr-below : ℕ → In 1 after-expr-kinds.ps
+abbrev after-expr-below : ℕ → In 2 after-expr-kinds.ps
 after-expr-below t =
-    and 1 after-expr-kinds.ps (falls 1 after-expr-kinds.ps _<_ μ-after-expr t) after-expr.Pre
+    and 2 after-expr-kinds.ps (falls 2 after-expr-kinds.ps _<_ μ-after-expr t) after-expr.Pre
 
 pub +after-expr-spec : {M : Type 1} → statement M
 +after-expr-spec = close μ-after-expr λ t. after-expr-lts.spec (

@@ -27,45 +27,45 @@ use Rattle.shared.proofs.bytes.byte_at.Reads as byte-at-reads
 use Rattle.gathered.proofs.writes.+block_writes+pair_writes+stmt_writes.{statement}
 use Rattle.gathered.proofs.writes.+block_writes+pair_writes+stmt_writes.Tie.{close}
 
-abbrev μ-block-writes : Measures 2 block-writes-kinds.ps ℕ
+abbrev μ-block-writes : Measures 3 block-writes-kinds.ps ℕ
 μ-block-writes κs a = 2 * a .1 .0 + 1
 
-abbrev μ-pair-writes : Measures 2 pair-writes-kinds.ps ℕ
+abbrev μ-pair-writes : Measures 3 pair-writes-kinds.ps ℕ
 μ-pair-writes κs a = 2 * a .1 .0 + 1
 
-abbrev μ-stmt-writes : Measures 2 stmt-writes-kinds.ps ℕ
+abbrev μ-stmt-writes : Measures 3 stmt-writes-kinds.ps ℕ
 μ-stmt-writes κs a = 2 * a .1 .0
 
-abbrev block-writes-at : ℕ → In 2 block-writes-kinds.ps
+abbrev block-writes-at : ℕ → In 3 block-writes-kinds.ps
 block-writes-at t =
-    and 2 block-writes-kinds.ps (is 2 block-writes-kinds.ps μ-block-writes t) block-writes.Pre
+    and 3 block-writes-kinds.ps (is 3 block-writes-kinds.ps μ-block-writes t) block-writes.Pre
 
-abbrev block-writes-below : ℕ → In 2 block-writes-kinds.ps
+abbrev block-writes-below : ℕ → In 3 block-writes-kinds.ps
 block-writes-below t =
     and
-    2
+    3
     block-writes-kinds.ps
-    (falls 2 block-writes-kinds.ps _<_ μ-block-writes t)
+    (falls 3 block-writes-kinds.ps _<_ μ-block-writes t)
     block-writes.Pre
 
-abbrev pair-writes-at : ℕ → In 2 pair-writes-kinds.ps
+abbrev pair-writes-at : ℕ → In 3 pair-writes-kinds.ps
 pair-writes-at t =
-    and 2 pair-writes-kinds.ps (is 2 pair-writes-kinds.ps μ-pair-writes t) pair-writes.Pre
+    and 3 pair-writes-kinds.ps (is 3 pair-writes-kinds.ps μ-pair-writes t) pair-writes.Pre
 
-abbrev pair-writes-below : ℕ → In 2 pair-writes-kinds.ps
+abbrev pair-writes-below : ℕ → In 3 pair-writes-kinds.ps
 pair-writes-below t =
-    and 2 pair-writes-kinds.ps (falls 2 pair-writes-kinds.ps _<_ μ-pair-writes t) pair-writes.Pre
+    and 3 pair-writes-kinds.ps (falls 3 pair-writes-kinds.ps _<_ μ-pair-writes t) pair-writes.Pre
 
-abbrev stmt-writes-at : ℕ → In 2 stmt-writes-kinds.ps
+abbrev stmt-writes-at : ℕ → In 3 stmt-writes-kinds.ps
 stmt-writes-at t =
-    and 2 stmt-writes-kinds.ps (is 2 stmt-writes-kinds.ps μ-stmt-writes t) stmt-writes.Pre
+    and 3 stmt-writes-kinds.ps (is 3 stmt-writes-kinds.ps μ-stmt-writes t) stmt-writes.Pre
 
-abbrev stmt-writes-below : ℕ → In 2 stmt-writes-kinds.ps
+abbrev stmt-writes-below : ℕ → In 3 stmt-writes-kinds.ps
 stmt-writes-below t =
-    and 2 stmt-writes-kinds.ps (falls 2 stmt-writes-kinds.ps _<_ μ-stmt-writes t) stmt-writes.Pre
+    and 3 stmt-writes-kinds.ps (falls 3 stmt-writes-kinds.ps _<_ μ-stmt-writes t) stmt-writes.Pre
 
 abbrev block-writes-Inv-loop : block-writes-lts.InvT-loop
-block-writes-Inv-loop program depth at written₀ statements₀ next₀ written statements next = (length written ≡ 2) × Gathering program depth at written₀ statements next written
+block-writes-Inv-loop program depth at written₀ statements₀ next₀ written statements next = (length written ≡ 2) × Gathering (program .now) depth at written₀ statements next written
 
 abbrev block-writes-μ-loop : block-writes-lts.MeasureT-loop
 block-writes-μ-loop program depth at written₀ statements₀ next₀ written statements next = statements

@@ -14,15 +14,15 @@ use Rattle.program.proofs.codes.expression_of.Reads as expression-of-re
 use Rattle.program.proofs.expressions.+read_expr.{statement}
 use Rattle.program.proofs.expressions.+read_expr.Tie.{close}
 
-abbrev μ-read-expr : Measures 1 read-expr-kinds.ps ℕ
+abbrev μ-read-expr : Measures 2 read-expr-kinds.ps ℕ
 μ-read-expr κs a = a .1 .1 .0
 
-abbrev read-expr-at : ℕ → In 1 read-expr-kinds.ps
-read-expr-at t = and 1 read-expr-kinds.ps (is 1 read-expr-kinds.ps μ-read-expr t) read-expr.Pre
+abbrev read-expr-at : ℕ → In 2 read-expr-kinds.ps
+read-expr-at t = and 2 read-expr-kinds.ps (is 2 read-expr-kinds.ps μ-read-expr t) read-expr.Pre
 
-abbrev read-expr-below : ℕ → In 1 read-expr-kinds.ps
+abbrev read-expr-below : ℕ → In 2 read-expr-kinds.ps
 read-expr-below t =
-    and 1 read-expr-kinds.ps (falls 1 read-expr-kinds.ps _<_ μ-read-expr t) read-expr.Pre
+    and 2 read-expr-kinds.ps (falls 2 read-expr-kinds.ps _<_ μ-read-expr t) read-expr.Pre
 
 pub +read-expr-spec : {M : Type 1} → statement M
 +read-expr-spec = close μ-read-expr λ t. read-expr-lts.spec (

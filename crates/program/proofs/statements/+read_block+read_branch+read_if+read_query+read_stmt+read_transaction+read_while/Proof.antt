@@ -45,90 +45,90 @@ use Rattle.program.proofs.statements.+read_block+read_branch+read_if+re
   close,
 }
 
-abbrev μ-read-block : Measures 1 read-block-kinds.ps ℕ
+abbrev μ-read-block : Measures 2 read-block-kinds.ps ℕ
 μ-read-block κs a = 3 * a .1 .1 .1 .1 .0 + 2
 
-abbrev μ-read-branch : Measures 1 read-branch-kinds.ps ℕ
+abbrev μ-read-branch : Measures 2 read-branch-kinds.ps ℕ
 μ-read-branch κs a = 3 * a .1 .1 .1 .1 .0 + 1
 
-abbrev μ-read-if : Measures 1 read-if-kinds.ps ℕ
+abbrev μ-read-if : Measures 2 read-if-kinds.ps ℕ
 μ-read-if κs a = 3 * a .1 .1 .1 .1 .0 + 2
 
-abbrev μ-read-query : Measures 1 read-query-kinds.ps ℕ
+abbrev μ-read-query : Measures 2 read-query-kinds.ps ℕ
 μ-read-query κs a = 3 * a .1 .1 .1 .1 .0 + 2
 
-abbrev μ-read-stmt : Measures 1 read-stmt-kinds.ps ℕ
+abbrev μ-read-stmt : Measures 2 read-stmt-kinds.ps ℕ
 μ-read-stmt κs a = 3 * a .1 .1 .1 .1 .0
 
-abbrev μ-read-transaction : Measures 1 read-transaction-kinds.ps ℕ
+abbrev μ-read-transaction : Measures 2 read-transaction-kinds.ps ℕ
 μ-read-transaction κs a = 3 * a .1 .1 .1 .1 .0 + 2
 
-abbrev μ-read-while : Measures 1 read-while-kinds.ps ℕ
+abbrev μ-read-while : Measures 2 read-while-kinds.ps ℕ
 μ-read-while κs a = 3 * a .1 .1 .1 .1 .0 + 2
 
-abbrev read-block-at : ℕ → In 1 read-block-kinds.ps
+abbrev read-block-at : ℕ → In 2 read-block-kinds.ps
 read-block-at t =
-    and 1 read-block-kinds.ps (is 1 read-block-kinds.ps μ-read-block t) read-block.Pre
+    and 2 read-block-kinds.ps (is 2 read-block-kinds.ps μ-read-block t) read-block.Pre
 
-abbrev read-block-below : ℕ → In 1 read-block-kinds.ps
+abbrev read-block-below : ℕ → In 2 read-block-kinds.ps
 read-block-below t =
-    and 1 read-block-kinds.ps (falls 1 read-block-kinds.ps _<_ μ-read-block t) read-block.Pre
+    and 2 read-block-kinds.ps (falls 2 read-block-kinds.ps _<_ μ-read-block t) read-block.Pre
 
-abbrev read-branch-at : ℕ → In 1 read-branch-kinds.ps
+abbrev read-branch-at : ℕ → In 2 read-branch-kinds.ps
 read-branch-at t =
-    and 1 read-branch-kinds.ps (is 1 read-branch-kinds.ps μ-read-branch t) read-branch.Pre
+    and 2 read-branch-kinds.ps (is 2 read-branch-kinds.ps μ-read-branch t) read-branch.Pre
 
-abbrev read-branch-below : ℕ → In 1 read-branch-kinds.ps
+abbrev read-branch-below : ℕ → In 2 read-branch-kinds.ps
 read-branch-below t =
-    and 1 read-branch-kinds.ps (falls 1 read-branch-kinds.ps _<_ μ-read-branch t) read-branch.Pre
+    and 2 read-branch-kinds.ps (falls 2 read-branch-kinds.ps _<_ μ-read-branch t) read-branch.Pre
 
-abbrev read-if-at : ℕ → In 1 read-if-kinds.ps
-read-if-at t = and 1 read-if-kinds.ps (is 1 read-if-kinds.ps μ-read-if t) read-if.Pre
+abbrev read-if-at : ℕ → In 2 read-if-kinds.ps
+read-if-at t = and 2 read-if-kinds.ps (is 2 read-if-kinds.ps μ-read-if t) read-if.Pre
 
-abbrev read-if-below : ℕ → In 1 read-if-kinds.ps
-read-if-below t = and 1 read-if-kinds.ps (falls 1 read-if-kinds.ps _<_ μ-read-if t) read-if.Pre
+abbrev read-if-below : ℕ → In 2 read-if-kinds.ps
+read-if-below t = and 2 read-if-kinds.ps (falls 2 read-if-kinds.ps _<_ μ-read-if t) read-if.Pre
 
-abbrev read-query-at : ℕ → In 1 read-query-kinds.ps
+abbrev read-query-at : ℕ → In 2 read-query-kinds.ps
 read-query-at t =
-    and 1 read-query-kinds.ps (is 1 read-query-kinds.ps μ-read-query t) read-query.Pre
+    and 2 read-query-kinds.ps (is 2 read-query-kinds.ps μ-read-query t) read-query.Pre
 
-abbrev read-query-below : ℕ → In 1 read-query-kinds.ps
+abbrev read-query-below : ℕ → In 2 read-query-kinds.ps
 read-query-below t =
-    and 1 read-query-kinds.ps (falls 1 read-query-kinds.ps _<_ μ-read-query t) read-query.Pre
+    and 2 read-query-kinds.ps (falls 2 read-query-kinds.ps _<_ μ-read-query t) read-query.Pre
 
-abbrev read-stmt-at : ℕ → In 1 read-stmt-kinds.ps
-read-stmt-at t = and 1 read-stmt-kinds.ps (is 1 read-stmt-kinds.ps μ-read-stmt t) read-stmt.Pre
+abbrev read-stmt-at : ℕ → In 2 read-stmt-kinds.ps
+read-stmt-at t = and 2 read-stmt-kinds.ps (is 2 read-stmt-kinds.ps μ-read-stmt t) read-stmt.Pre
 
-abbrev read-stmt-below : ℕ → In 1 read-stmt-kinds.ps
+abbrev read-stmt-below : ℕ → In 2 read-stmt-kinds.ps
 read-stmt-below t =
-    and 1 read-stmt-kinds.ps (falls 1 read-stmt-kinds.ps _<_ μ-read-stmt t) read-stmt.Pre
+    and 2 read-stmt-kinds.ps (falls 2 read-stmt-kinds.ps _<_ μ-read-stmt t) read-stmt.Pre
 
-abbrev read-transaction-at : ℕ → In 1 read-transaction-kinds.ps
+abbrev read-transaction-at : ℕ → In 2 read-transaction-kinds.ps
 read-transaction-at t =
     and
-    1
+    2
     read-transaction-kinds.ps
-    (is 1 read-transaction-kinds.ps μ-read-transaction t)
+    (is 2 read-transaction-kinds.ps μ-read-transaction t)
     read-transaction.Pre
 
-abbrev read-transaction-below : ℕ → In 1 read-transaction-kinds.ps
+abbrev read-transaction-below : ℕ → In 2 read-transaction-kinds.ps
 read-transaction-below t =
     and
-    1
+    2
     read-transaction-kinds.ps
-    (falls 1 read-transaction-kinds.ps _<_ μ-read-transaction t)
+    (falls 2 read-transaction-kinds.ps _<_ μ-read-transaction t)
     read-transaction.Pre
 
-abbrev read-while-at : ℕ → In 1 read-while-kinds.ps
+abbrev read-while-at : ℕ → In 2 read-while-kinds.ps
 read-while-at t =
-    and 1 read-while-kinds.ps (is 1 read-while-kinds.ps μ-read-while t) read-while.Pre
+    and 2 read-while-kinds.ps (is 2 read-while-kinds.ps μ-read-while t) read-while.Pre
 
-abbrev read-while-below : ℕ → In 1 read-while-kinds.ps
+abbrev read-while-below : ℕ → In 2 read-while-kinds.ps
 read-while-below t =
-    and 1 read-while-kinds.ps (falls 1 read-while-kinds.ps _<_ μ-read-while t) read-while.Pre
+    and 2 read-while-kinds.ps (falls 2 read-while-kinds.ps _<_ μ-read-while t) read-while.Pre
 
 abbrev read-block-Inv-loop : read-block-lts.InvT-loop
-read-block-Inv-loop s principals roles vars depth at left₀ next₀ left next = (endOf (readMany (readStmt s principals roles vars depth) left next) ≡ endOf (blockAt s principals roles vars (readStmt s principals roles vars depth) at)) × (next < placeLimit)
+read-block-Inv-loop s principals roles vars depth at left₀ next₀ left next = (endOf (readMany (readStmt (s .now) principals roles vars depth) left next) ≡ endOf (blockAt (s .now) principals roles vars (readStmt (s .now) principals roles vars depth) at)) × (next < placeLimit)
 
 abbrev read-block-μ-loop : read-block-lts.MeasureT-loop
 read-block-μ-loop s principals roles vars depth at left₀ next₀ left next = left
