@@ -1,13 +1,13 @@
 -- A put changes the bytes that it names and no other, so a word is what was put there, or what it was.
 use Prim.Native.Nat.{ℕ, zero, suc, _+_, _*_, _/_, _%_, _^_, _<_, _≤_}
-use mathlib.Core.Path.{_≡_, refl, sym, _∙_}
+use mathlib.Core.Path.{_≡_, refl, sym, ap, _∙_}
 use mathlib.Core.Logic.{_⊎_, inl, inr}
 use mathlib.Core.List.{List, [], _∷_}
 use native.Mathlib.Omega.{arith}
-use native.Mathlib.Nat.{mod-eq-of-lt, mod-one, pow-suc, one-le-pow, mul-comm}
+use native.Mathlib.Nat.{mod-eq-of-lt, mod-lt, mod-one, pow-suc, one-le-pow, mul-comm}
 use lib.ListN.{length, set, length-set}
-use lib.Seq.{getD-set-same, getD-set-other}
-use lib.Arith.{mod-mul}
+use lib.Seq.{getD-set-same, getD-set-other, set-getD}
+use lib.Arith.{mod-mul, digits-lt, digits-div, digits-mod}
 use Rattle.model.specs.Bytes.{byte, word, put, startsWith}
 
 -- equal bytes give equal words
@@ -49,6 +49,36 @@ word-put-low s at (suc n) v l =
 
 pub word-put : (s : List ℕ) (at n v : ℕ) → v < 256 ^ n → at + n ≤ length s → word (put s at n v) at n ≡ v
 word-put s at n v h l = word-put-low s at n v l ∙ mod-eq-of-lt h
+
+-- bytes are below 256, so a word has one digit for each
+word-below : (s : List ℕ) (at n : ℕ) → ((i : ℕ) → byte s i < 256) → word s at n < 256 ^ n
+unfolding word
+word-below s at zero low = omega arith
+word-below s at (suc n) low = rw (pow-suc 256 n) (omega (arith, digits-lt (low (at + n)) (word-below s at n low)))
+
+-- a word that is put back leaves the bytes as they are
+put-low : (s : List ℕ) (at n v : ℕ) → ((i : ℕ) → byte s i < 256) → v % 256 ^ n ≡ word s at n → put s at n v ≡ s
+unfolding word put
+put-low s at zero v low e = refl
+put-low s at (suc n) v low e = rw (put-low s at n v low rest, digit) (set-getD s (at + n) 0)
+  where
+    M : ℕ
+    M = 256 ^ n
+
+    some : 0 < M
+    some = one-le-pow n 256 (omega arith)
+
+    two : v / M % 256 * M + v % M ≡ byte s (at + n) * M + word s at n
+    two = omega (arith, low-bytes v n, e)
+
+    digit : v / M % 256 ≡ byte s (at + n)
+    digit = sym (digits-div (v / M % 256) (mod-lt v some)) ∙ ap (λ (x : ℕ). x / M) two ∙ digits-div (byte s (at + n)) (word-below s at n low)
+
+    rest : v % M ≡ word s at n
+    rest = sym (digits-mod (v / M % 256) (mod-lt v some)) ∙ ap (λ (x : ℕ). x % M) two ∙ digits-mod (byte s (at + n)) (word-below s at n low)
+
+pub put-word : (s : List ℕ) (at n : ℕ) → ((i : ℕ) → byte s i < 256) → put s at n (word s at n) ≡ s
+put-word s at n low = put-low s at n (word s at n) low (mod-eq-of-lt (word-below s at n low))
 
 starts-set : (s m : List ℕ) (i v : ℕ) → length m ≤ i → startsWith (set s i v) m ≡ startsWith s m
 unfolding startsWith

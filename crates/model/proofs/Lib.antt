@@ -11,7 +11,6 @@ pub mod Taking
 pub mod Fixed
 pub mod Enough
 pub mod Least
-pub mod Columns
 pub mod Memory
 pub mod Meaning
 pub mod Beyond

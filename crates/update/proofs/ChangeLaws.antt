@@ -1,9 +1,10 @@
 -- What carrying out an update gives, from its parts, and that an update and a list that stand under one policy do under another.
 use mathlib.Core.Path.{_≡_, refl, sym, _∙_}
-use Prim.Native.Nat.{ℕ, zero, suc, _+_, _-_, _*_, _<_, _≤_}
+use Prim.Native.Nat.{ℕ, zero, suc, _+_, _-_, _*_, _≤_}
 use native.Mathlib.Omega.{arith}
 use mathlib.Core.List.{List}
 use mathlib.Core.Bool.{Bool, true, false, not, _&&_, _||_}
+use lib.Bits.{bitOr}
 use lib.ListN.{length, getD}
 use Rattle.model.specs.Limits.{listLimit}
 use Rattle.model.specs.Sets.{within}
@@ -15,12 +16,13 @@ use Rattle.model.specs.Run.{broken}
 use Rattle.model.proofs.Reading.{query-fits}
 use Rattle.model.proofs.Standing.{many-none, many-more, query-parts, queries-end}
 use Rattle.update.specs.Live.{atomWords, Live}
-use Rattle.update.specs.Index.{staleAt, indexWords, Tracked, Settled}
+use Rattle.update.specs.Index.{movedAt, rewiredAt, Mirrored, Sifted, Tracked, Settled}
 use Rattle.update.specs.Mutations.{Mutable, Mutated}
 use Rattle.update.specs.Listed.{Listing, HeldAt}
-use Rattle.update.specs.Change.{Judged, CarriedOut}
+use Rattle.update.specs.Change.{Prepared, Judged, CarriedOut}
 use Rattle.update.proofs.AtomLaws.{live-holds}
-use Rattle.update.proofs.SettleLaws.{settled-already}
+use Rattle.update.proofs.SettleLaws.{tracked-long, tracked-atoms, tracked-few, settling-start, settling-atoms, settling-done, settled-already}
+use Rattle.update.proofs.TrackedLaws.{tracked-after}
 use Rattle.update.proofs.MutationLaws.{granted-stays}
 use Rattle.update.proofs.ListedLaws.{broken-bits}
 
@@ -41,41 +43,57 @@ module _ (s t w : List ℕ) (old : Live s w) (new : Live t w) (p : List ℕ) (sa
       never true = refl
       never false = refl
 
-module _ (s w i : List ℕ) where
-  pub settled-tracked : Settled s w i → Tracked s w i
-  settled-tracked h = h .tracked
+-- what is tracked when the mutations have been made
+pub made-tracked : (p s t w i i₁ : List ℕ) (at count : ℕ) → Mutated p s at i t i₁ → Prepared count s w i → Tracked t w i₁
+made-tracked p s t w i i₁ at count made h = tracked-after s t w i i₁ (h .tracked) (made .mirrored) (made .kept) (made .same-fixed)
 
-  pub tracked-atoms : Tracked s w i → length w ≡ atomWords
-  tracked-atoms h = h .fixed-live .long
+-- what is tracked when an update begins, with its sets up to date where something is listed
+module _ (s w i : List ℕ) (count : ℕ) where
+  pub prepared-none : count ≤ 0 → Tracked s w i → Prepared count s w i
+  prepared-none z h = record { tracked = h; settled = λ l. absurd (omega arith) }
 
-  -- none is listed
-  pub carried-none : (p t i₁ : List ℕ) (at listing count : ℕ) → count ≡ 0 → Mutated p s at t w i₁ → length t ≡ length s → CarriedOut p s at listing count t w i₁ false
-  unfolding broken
-  carried-none p t i₁ at listing count z made long = record {
-    tracked = made .tracked;
-    same-fixed = made .same-fixed;
-    same-length = long;
-    made = made .made;
-    judged = λ qs end h. let e = many-none (readQuery p (roles s)) count listing h (omega arith) in rw (e .0) refl;
-  }
+  pub prepared-settled : Settled s w i → Prepared count s w i
+  prepared-settled h = record { tracked = h .tracked; settled = λ l. h }
 
-  pub carried : (p t u i₁ i₂ : List ℕ) (at listing count : ℕ) (b : Bool) → Settled s w i → Mutated p s at t w i₁ → Judged p listing count t w u i₂ b → length t ≡ length s
-      → CarriedOut p s at listing count t u i₂ b
-  carried p t u i₁ i₂ at listing count b h made j long = record {
-    tracked = j .tracked;
-    same-fixed = made .same-fixed;
-    same-length = long;
-    made = made .made;
-    judged = j .judged s (h .live) (made .same-fixed .same-roles);
-  }
+  module _ (h : Prepared count s w i) where
+    pub prepared-mirrored : Mirrored s i
+    prepared-mirrored = h .tracked .mirrored
 
-module _ (p : List ℕ) (listing count : ℕ) (t w i : List ℕ) where
-  -- no place is stale by the mutations
-  pub judged-still : (x : ℕ) → Tracked t w i → x ≡ getD i staleAt 0 → x ≡ 0 → Judged p listing count t w w i false
-  judged-still x h e z = record {
-    tracked = h;
-    judged = λ s live same qs end r. sym (none-broken s t w live (settled-already t w i h x e z .live) p same count listing r);
-  }
+    -- none is listed
+    pub carried-none : (p t i₁ : List ℕ) (at listing : ℕ) → count ≡ 0 → Mutated p s at i t i₁ → length t ≡ length s → CarriedOut p s at listing count t w i₁ false
+    unfolding broken
+    carried-none p t i₁ at listing z made long = record {
+      tracked = made-tracked p s t w i i₁ at count made h;
+      same-fixed = made .same-fixed;
+      same-length = long;
+      made = made .made;
+      judged = λ qs end r. let e = many-none (readQuery p (roles s)) count listing r (omega arith) in rw (e .0) refl;
+    }
+
+    pub carried : (p t u i₁ i₂ : List ℕ) (at listing : ℕ) (b : Bool) → (count ≡ 0 → ⊥) → Mutated p s at i t i₁ → Judged p listing count t w u i₂ b → length t ≡ length s
+        → CarriedOut p s at listing count t u i₂ b
+    carried p t u i₁ i₂ at listing b some made j long = record {
+      tracked = j .tracked;
+      same-fixed = made .same-fixed;
+      same-length = long;
+      made = made .made;
+      judged = j .judged s (h .settled (omega arith) .live) (made .same-fixed .same-roles);
+    }
+
+pub ruleset prepareds = (prepared-none, prepared-settled)
+
+module _ (p : List ℕ) (listing count : ℕ) (t w : List ℕ) where
+  module _ (i : List ℕ) where
+    -- the sets are right as they are, so no query breaks
+    same-judged : Settled t w i → Judged p listing count t w w i false
+    same-judged h = record { tracked = h .tracked; judged = λ s live same qs end r. sym (none-broken s t w live (h .live) p same count listing r) }
+
+    -- nothing was touched, or nobody's places changed by it
+    pub judged-still : (x : ℕ) → Tracked t w i → x ≡ bitOr (getD i movedAt 0) (getD i rewiredAt 0) → x ≡ 0 → Judged p listing count t w w i false
+    judged-still x h e z = same-judged (settled-already t w i h x e z)
+
+    pub judged-same : (i₀ : List ℕ) (some : ℕ) → Tracked t w i₀ → Sifted w i₀ i some → some ≡ 0 → Judged p listing count t w w i false
+    judged-same i₀ some h g z = same-judged (settling-done t w i some (settling-start t w i₀ i some h g) (omega arith))
 
   pub judged-so : (u i₁ : List ℕ) (before after : ℕ) (b : Bool) → Settled t u i₁ → HeldAt p listing count w before → HeldAt p listing count u after → b ≡ within before after
       → Judged p listing count t w u i₁ (not b)
@@ -91,24 +109,26 @@ module _ (p : List ℕ) (listing count : ℕ) (t w i : List ℕ) where
 pub settled-atoms : (s w i : List ℕ) → Settled s w i → length w ≡ atomWords
 settled-atoms s w i h = h .live .long
 
-pub made-tracked : (p s t w i : List ℕ) (at : ℕ) → Mutated p s at t w i → Tracked t w i
-made-tracked p s t w i at h = h .tracked
+pub ruleset judges = (settling-atoms, settled-atoms, judged-so)
 
-pub tracked-index : (s w i : List ℕ) → Tracked s w i → length i ≡ indexWords
-tracked-index s w i h = h .indexed .long
+pub ruleset judgings = (tracked-long, tracked-atoms, tracked-few, settling-start, judged-still, judged-same)
+
+pub update-there : (p s : List ℕ) (at : ℕ) → Mutable p s at → at + 2 ≤ length p
+unfolding Mutable
+update-there p s at h = h .inside
 
 pub few-listed : (p s : List ℕ) (count at : ℕ) → Listing p s count at → count ≤ listLimit
 unfolding Listing
 few-listed p s count at h = h .few
 
-pub bytes-there : (p s : List ℕ) (count at : ℕ) → Listing p s count at → 0 < count → at + 2 * count ≤ length p
+pub bytes-there : (p s : List ℕ) (count at : ℕ) → Listing p s count at → (count ≡ 0 → ⊥) → at + 2 * count ≤ length p
 unfolding Listing
 bytes-there p s count at h l =
-    let v = many-more (readQuery p (roles s)) count at (h .is-read) l in
+    let v = many-more (readQuery p (roles s)) count at (h .is-read) (omega arith) in
     let e = queries-end p (roles s) count at (h .is-read) (omega (arith, query-parts p (roles s) at (v .head-read) .inside)) in
     omega (arith, e .0, e .1)
 
-pub ruleset carries = (bytes-there, settled-tracked, settled-atoms, tracked-atoms, tracked-index, made-tracked, carried-none, carried, judged-still, judged-so, few-listed)
+pub ruleset carries = (prepared-mirrored, update-there, made-tracked, carried-none, carried, few-listed, bytes-there)
 
 -- Where the update and the list of an accepted program stand, they do under every policy with the same fixed part.
 module _ (p s t : List ℕ) (f : SameFixed s t) where
@@ -117,6 +137,7 @@ module _ (p s t : List ℕ) (f : SameFixed s t) where
   mutable-stays at h = record {
     mutations = h .mutations;
     end = h .end;
+    inside = h .inside;
     is-read = rw (← f .same-principals, ← f .same-roles) (h .is-read);
     granted = λ m i. granted-stays f (h .granted m i);
   }

@@ -1,6 +1,7 @@
--- A law for each return of index.rt, and for its loops.
+-- A law for each return of index.rt that makes the words, or what is known of roles, and for the loops. Those that keep and
+-- compare the words have their laws in KeepLaws and SiftLaws.
 use mathlib.Core.Path.{_≡_, refl, sym, ap, _∙_}
-use Prim.Native.Nat.{ℕ, _+_, _*_, _<_, _≤_}
+use Prim.Native.Nat.{ℕ, _+_, _-_, _*_, _%_, _^_, _<_, _≤_}
 use mathlib.Core.Logic.{_⊎_, inl, inr, ⊎-elim}
 use mathlib.Core.List.{List}
 use mathlib.Core.Bool.{Bool, true, false, true≢false}
@@ -18,11 +19,11 @@ use Rattle.model.specs.Policy.{roles, principals, members, takes, HasRow, Accep
 use Rattle.model.proofs.Accepted.{accepted-facts}
 use Rattle.model.proofs.Below.{last-or}
 use Rattle.model.proofs.Rows.{accepted-row}
-use Rattle.model.proofs.Sets.{has-zero, not-in, in-not, in-none, has-or-l, has-or-r, or-has, has-below, power-is, power-in, has-with-same, has-with, with-has, has-without, without-has}
+use Rattle.model.proofs.Sets.{has-zero, not-in, in-not, in-none, has-or-l, has-or-r, or-has, same-sets, has-below, power-is, power-in, has-with-same, has-with, with-has, has-without, without-has}
 use Rattle.model.proofs.Truth.{true-or-false}
 use Rattle.shared.specs.Words.{single}
-use Rattle.shared.proofs.SetLaws.{single-is, next-without, fewer}
-use Rattle.update.specs.Index.{holdersAt, staleAt, knownAt, aboveAt, indexWords, SetInside, Entered, Transposed, Loaded, placed, Turned, Upward, Reaching, Known, Learnt}
+use Rattle.shared.proofs.SetLaws.{shifted, single-is, held-power, next-without, fewer}
+use Rattle.update.specs.Index.{holdersAt, movedAt, knownAt, aboveAt, rewiredAt, indexWords, current, SetInside, Entered, Transposed, Loaded, placed, Turned, Upward, Reaching, Known, Learnt}
 
 -- i is put into the words of `set` that are not in `rest`
 pub record Entering (from set rest i : ℕ) (w u : List ℕ) : Type 0 where
@@ -37,20 +38,20 @@ entering-start from set i w =
     record { long = refl; in-rest = λ j h. h; entered = λ j h n. in-not set j h n; waiting = λ j h. refl; others = λ k n. refl }
 
 module _ (from all rest i : ℕ) (w u : List ℕ) (inside : SetInside from all) (long : length w ≡ indexWords) (h : Entering from all rest i w u) where
-  pub entering-inside : (j : ℕ) → has rest j ≡ true → from + j < length u
+  pub entering-inside : (j : ℕ) → j < 64 → has rest j ≡ true → from + j < length u
   unfolding SetInside
-  entering-inside j m = omega (arith, h .long, long, inside j (h .in-rest j m))
+  entering-inside j b m = omega (arith, h .long, long, inside j b (h .in-rest j m))
 
-  pub entering-fits : (j : ℕ) → has rest j ≡ true → Fits w64 (from + j)
+  pub entering-fits : (j : ℕ) → j < 64 → has rest j ≡ true → Fits w64 (from + j)
   unfolding SetInside
-  entering-fits j m = record { fits = omega (arith, inside j (h .in-rest j m)) }
+  entering-fits j b m = record { fits = omega (arith, inside j b (h .in-rest j m)) }
 
-  pub entering-wide : (j : ℕ) → has rest j ≡ true → Fits w64 ((from + j) * 8)
+  pub entering-wide : (j : ℕ) → j < 64 → has rest j ≡ true → Fits w64 ((from + j) * 8)
   unfolding SetInside
-  entering-wide j m = record { fits = omega (arith, inside j (h .in-rest j m)) }
+  entering-wide j b m = record { fits = omega (arith, inside j b (h .in-rest j m)) }
 
-  pub entering-more : (j k v next : ℕ) → j ≡ trailingZeros 64 rest → has rest j ≡ true → k ≡ from + j → v ≡ with (getD u k 0) i → next ≡ without rest (trailingZeros 64 rest) → Entering from all next i w (set u k v)
-  entering-more j k v next ej m ek ev en = rw (ev, ek) (record {
+  pub entering-more : (j k v next : ℕ) → j ≡ trailingZeros 64 rest → j < 64 → has rest j ≡ true → k ≡ from + j → v ≡ with (getD u k 0) i → next ≡ without rest (trailingZeros 64 rest) → Entering from all next i w (set u k v)
+  entering-more j k v next ej b m ek ev en = rw (ev, ek) (record {
     long = length-set u (from + j) _ ∙ h .long;
     in-rest = λ l p. h .in-rest l (out l p .0);
     entered = λ l p n. go l p n (ℕ-discrete l j);
@@ -65,7 +66,7 @@ module _ (from all rest i : ℕ) (w u : List ℕ) (inside : SetInside from all) 
       out l p = without-has rest j l (rw is at p)
 
       go : (l : ℕ) → has all l ≡ true → has next l ≡ false → Dec (l ≡ j) → getD (set u (from + j) (with (getD u (from + j) 0) i)) (from + l) 0 ≡ with (getD w (from + l) 0) i
-      go l p n (yes e) = rw e (getD-set-same u (from + j) _ 0 (entering-inside j m) ∙ ap (λ (x : ℕ). with x i) (h .waiting j m))
+      go l p n (yes e) = rw e (getD-set-same u (from + j) _ 0 (entering-inside j b m) ∙ ap (λ (x : ℕ). with x i) (h .waiting j m))
       go l p n (no d) =
           getD-set-other u (from + j) (from + l) _ 0 (λ e. d (omega arith))
           ∙ h .entered l p (not-in rest l (λ q. in-not next l (rw is (has-without rest j l q d)) n))
@@ -131,9 +132,9 @@ module _ (f : ℕ → ℕ) (from width n : ℕ) (w u : List ℕ) (h : Transposed
   transposed-kept g alike kept = record { same = λ j i l b. rw (kept j l) (h .same j i l b ∙ sym (alike i j b)); below = λ j i l m. h .below j i l (rw (kept j l) at m) }
 
   -- the word of x changes in r, and so does the set of r in x
-  pub transposed-turned : (g : ℕ → ℕ) (r x more : ℕ) (present : Bool) → r < n → x < width → from + width ≤ staleAt → ((i : ℕ) → i < n → (i ≡ r → ⊥) → g i ≡ f i) → g r ≡ placed present (f r) x
-      → Turned (from + x) r present more w u → Transposed g from width n u
-  transposed-turned g r x more present r-there x-there inside others own z =
+  pub transposed-turned : (g : ℕ → ℕ) (r x : ℕ) (present : Bool) → r < n → x < width → from + width ≤ movedAt → ((i : ℕ) → i < n → (i ≡ r → ⊥) → g i ≡ f i) → g r ≡ placed present (f r) x
+      → Turned (from + x) r present w u → Transposed g from width n u
+  transposed-turned g r x present r-there x-there inside others own z =
       record { same = λ j i l b. same j i l b (ℕ-discrete j x) (ℕ-discrete i r); below = λ j i l m. below j i l m (ℕ-discrete j x) (ℕ-discrete i r) }
     where
       old : ℕ
@@ -173,11 +174,11 @@ module _ (s : List ℕ) (ok : Accepted s) (c i : ℕ) (e : c ≡ roles s) (l : i
 
   pub takes-inside : (v : ℕ) → v ≡ takes s i → SetInside 0 v
   unfolding SetInside
-  takes-inside v q j m = omega (arith, taken-small j (rw q at m))
+  takes-inside v q j b m = omega (arith, taken-small j (rw q at m))
 
   pub members-inside : (v : ℕ) → v ≡ members s i → SetInside holdersAt v
   unfolding SetInside
-  members-inside v q j m = omega (arith, member-small j (rw q at m))
+  members-inside v q j b m = omega (arith, member-small j (rw q at m))
 
   pub role-small : i < roleLimit
   role-small = omega (arith, accepted-facts s ok .roles-fit)
@@ -190,7 +191,7 @@ module _ (s w : List ℕ) (ok : Accepted s) where
       takers = none (takes s) 0 roleLimit (omega arith);
       holders = none (members s) holdersAt principalLimit (omega arith);
     };
-    none-stale = zero-at staleAt (omega arith);
+    untouched = record { none-moved = zero-at movedAt (omega arith); none-rewired = zero-at rewiredAt (omega arith) };
     none-known = zero-at knownAt (omega arith);
   }
     where
@@ -216,7 +217,7 @@ module _ (s w : List ℕ) (ok : Accepted s) where
         holders = transposed-more (members s) holdersAt principalLimit n u v
             (transposed-kept (members s) holdersAt principalLimit n w u (h .indexed .holders) (members s) (λ i j k. refl) (λ j k. f .others (holdersAt + j) (λ y p q. omega (arith, taken-small s ok c n ec l y p)))) g;
       };
-      none-stale = behind staleAt (omega arith) ∙ h .none-stale;
+      untouched = record { none-moved = behind movedAt (omega arith) ∙ h .untouched .none-moved; none-rewired = behind rewiredAt (omega arith) ∙ h .untouched .none-rewired };
       none-known = behind knownAt (omega arith) ∙ h .none-known;
     }
       where
@@ -226,7 +227,7 @@ module _ (s w : List ℕ) (ok : Accepted s) where
         g : Entered holdersAt (members s n) n u v
         g = rw em at b
 
-        behind : (k : ℕ) → staleAt ≤ k → getD v k 0 ≡ getD w k 0
+        behind : (k : ℕ) → movedAt ≤ k → getD v k 0 ≡ getD w k 0
         behind k b = g .others k (λ y p q. omega (arith, member-small s ok c n ec l y p)) ∙ f .others k (λ y p q. omega (arith, taken-small s ok c n ec l y p))
 
     pub loaded-done : (c : ℕ) → c ≡ roles s → n ≤ c → c ≤ n → Loaded s (roles s) w
@@ -234,101 +235,70 @@ module _ (s w : List ℕ) (ok : Accepted s) where
 
 pub ruleset loadings = (count-is, row-there, takes-inside, members-inside, role-small, loaded-start, loaded-long, loaded-more, loaded-done)
 
-pub placed-with : (present : Bool) (a i v : ℕ) → present ≡ true → v ≡ with a i → v ≡ placed present a i
-unfolding placed
-placed-with present a i v e f = rw e f
+-- a set without a number, by putting it in first
+module _ (old p : ℕ) where
+  pub placed-both : (here : Bool) → here ≡ true → bitOr old (2 ^ p) ≡ placed here old p
+  unfolding placed
+  placed-both here h = rw h refl
 
-pub placed-without : (present : Bool) (a i v : ℕ) → present ≡ false → v ≡ without a i → v ≡ placed present a i
-unfolding placed
-placed-without present a i v e f = rw e f
+  pub placed-off : (here : Bool) → here ≡ false → bitOr old (2 ^ p) - 2 ^ p ≡ placed here old p
+  unfolding placed
+  placed-off here h = rw h (both ∙ same-sets (without (with old p) p) (without old p) out back)
+    where
+      both : with old p - 2 ^ p ≡ without (with old p) p
+      both = simp (has-with-same old p)
 
-pub ruleset placings = (placed-with, placed-without)
+      out : (j : ℕ) → has (without (with old p) p) j ≡ true → has (without old p) j ≡ true
+      out j m = let (a, n) = without-has (with old p) p j m in ⊎-elim (λ q. absurd (n q)) (λ y. has-without old p j y n) (with-has old p j a)
 
--- a word that is changed, or not
-module _ (k i : ℕ) (present : Bool) (more : ℕ) (w : List ℕ) (v : ℕ) (e : v ≡ placed present (getD w k 0) i) where
-  pub turned-not : v ≡ getD w k 0 → Turned k i present more w w
-  turned-not q = record {
-    long = refl;
-    word = sym q ∙ e;
-    others = λ m l n. refl;
-    still-stale = λ p h. h;
-    now-stale = λ p h n. absurd (n (ap (λ (x : ℕ). has x i) (sym q ∙ e) ∙ placed-same (getD w k 0) i present));
-    only-stale = λ p h n. in-not (getD w staleAt 0) p h n;
-    known = λ j h. (h, λ l. refl);
-    above = λ m l. refl;
-  }
+      back : (j : ℕ) → has (without old p) j ≡ true → has (without (with old p) p) j ≡ true
+      back j m = let (a, n) = without-has old p j m in has-without (with old p) p j (has-with old p j a) n
 
-  module _ (long : length w ≡ indexWords) (l : k < staleAt) where
-    pub turned-inside : staleAt < length (set w k v)
-    turned-inside = rw length-set (omega arith)
+  pub power-below : 2 ^ p ≤ bitOr old (2 ^ p)
+  power-below = held-power (with old p) p (has-with-same old p)
 
-    module _ (x : ℕ) (ex : x ≡ getD (set w k v) staleAt 0) where
-      abbrev turned : List ℕ
-      turned = set (set w k v) staleAt (bitOr x more)
+-- the same in a word of 64 bits
+module _ (here : Bool) (old p : ℕ) (l : p < roleLimit) where
+  pub shifted-below : 1 * 2 ^ p % 2 ^ 64 ≤ bitOr old (1 * 2 ^ p % 2 ^ 64)
+  shifted-below = rw (shifted p l) (power-below old p)
 
-      -- whatever becomes of what is known
-      turned-by : (u : List ℕ) → length u ≡ length turned → ((m : ℕ) → (m ≡ knownAt → ⊥) → getD u m 0 ≡ getD turned m 0)
-          → ((j : ℕ) → has (getD u knownAt 0) j ≡ true → (has (getD w knownAt 0) j ≡ true) × (roleLimit ≤ k)) → Turned k i present more w u
-      turned-by u same-long same known = record {
-        long = same-long ∙ length-set (set w k v) staleAt _ ∙ length-set w k v;
-        word = same k (λ q. omega arith) ∙ getD-set-other (set w k v) staleAt k _ 0 (λ q. omega arith) ∙ getD-set-same w k v 0 (omega arith) ∙ e;
-        others = λ m b n. same m (λ q. omega arith) ∙ getD-set-other (set w k v) staleAt m _ 0 (λ q. omega arith) ∙ getD-set-other w k m v 0 n;
-        still-stale = λ p h. rw now (has-or-l (getD w staleAt 0) more p h);
-        now-stale = λ p h n. rw now (has-or-r (getD w staleAt 0) more p h);
-        only-stale = λ p h n. ⊎-elim (λ y. in-not (getD w staleAt 0) p y n) (λ y. y) (or-has (getD w staleAt 0) more p (rw now at h));
-        known = λ j h. let (a, b) = known j h in (a, λ c. absurd (omega arith));
-        above = λ m b. same m (λ q. omega arith) ∙ getD-set-other (set w k v) staleAt m _ 0 (λ q. omega arith) ∙ getD-set-other w k m v 0 (λ q. omega arith);
-      }
-        where
-          now : getD u staleAt 0 ≡ bitOr (getD w staleAt 0) more
-          now = same staleAt (λ q. omega arith) ∙ getD-set-same (set w k v) staleAt _ 0 turned-inside ∙ ap (λ (y : ℕ). bitOr y more) (ex ∙ getD-set-other w k staleAt v 0 (λ q. omega arith))
+  pub shifted-both : here ≡ true → bitOr old (1 * 2 ^ p % 2 ^ 64) ≡ placed here old p
+  shifted-both h = rw (shifted p l) (placed-both old p here h)
 
-      pub turned-member : roleLimit ≤ k → Turned k i present more w (set (set w k v) staleAt (bitOr x more))
-      turned-member b = turned-by turned refl (λ m n. refl)
-          (λ j h. (ap (λ (y : ℕ). has y j) (sym (getD-set-other (set w k v) staleAt knownAt _ 0 (λ q. omega arith) ∙ getD-set-other w k knownAt v 0 (λ q. omega arith))) ∙ h, b))
+  pub shifted-off : here ≡ false → bitOr old (1 * 2 ^ p % 2 ^ 64) - 1 * 2 ^ p % 2 ^ 64 ≡ placed here old p
+  shifted-off h = rw (shifted p l) (placed-off old p here h)
 
-      pub known-inside : knownAt < length (set (set w k v) staleAt (bitOr x more))
-      known-inside = rw (length-set, length-set) (omega arith)
-
-      pub turned-taken : Turned k i present more w (set (set (set w k v) staleAt (bitOr x more)) knownAt 0)
-      turned-taken = turned-by (set turned knownAt 0) (length-set turned knownAt 0) (λ m n. getD-set-other turned knownAt m 0 0 n)
-          (λ j h. in-none j (rw (getD-set-same turned knownAt 0 0 known-inside) at h))
-
-pub ruleset turnings = (turned-not, turned-inside, known-inside, turned-member, turned-taken)
-
--- the word is found by the number that it is kept for
-pub turned-at : (k k₁ i i₁ : ℕ) (present : Bool) (more more₁ : ℕ) (w u : List ℕ) → k ≡ k₁ → i ≡ i₁ → more ≡ more₁ → Turned k i present more w u → Turned k₁ i₁ present more₁ w u
-turned-at k k₁ i i₁ present more more₁ w u e f g h = rw (e, f, g) at h
+pub ruleset placings = (shifted-below, shifted-both, shifted-off)
 
 -- what is reached upwards depends on the words of those that take in only
-reaching-kept : (w u : List ℕ) (start r : ℕ) → ((j : ℕ) → j < roleLimit → getD u j 0 ≡ getD w j 0) → Reaching w start r → Reaching u start r
-reaching-kept w u start r e h = record {
+reaching-kept : (f g : ℕ → ℕ) (start r : ℕ) → ((j : ℕ) → j < roleLimit → g j ≡ f j) → Reaching f start r → Reaching g start r
+reaching-kept f g start r e h = record {
   starts = h .starts;
   upward = record {
     closed = λ j i l p m. h .upward .closed j i l p (rw (e j l) at m);
-    least = λ H f g i p. h .upward .least H f (λ j k l q m. g j k l q (rw (e j l) m)) i p;
+    least = λ H a b i p. h .upward .least H a (λ j k l q m. b j k l q (rw (e j l) m)) i p;
   };
 }
 
 -- what is known stays so where these words are the same
-pub known-kept : (w u : List ℕ) → Known w (getD w knownAt 0) → ((j : ℕ) → has (getD u knownAt 0) j ≡ true → (has (getD w knownAt 0) j ≡ true) × ((k : ℕ) → k < roleLimit → getD u k 0 ≡ getD w k 0))
-    → ((m : ℕ) → knownAt < m → getD u m 0 ≡ getD w m 0) → Known u (getD u knownAt 0)
+pub known-kept : (f g : ℕ → ℕ) (w u : List ℕ) (old new : ℕ) → Known f w old → ((j : ℕ) → has new j ≡ true → (has old j ≡ true) × ((k : ℕ) → k < roleLimit → g k ≡ f k))
+    → ((j : ℕ) → j < roleLimit → getD u (aboveAt + j) 0 ≡ getD w (aboveAt + j) 0) → Known g u new
 unfolding Known
-known-kept w u h f a j m = let (b, c) = f j m in rw (a (aboveAt + j) (omega arith)) (reaching-kept w u _ _ c (h j b))
+known-kept f g w u old new h same a j l m = let (b, c) = same j m in rw (a j l) (reaching-kept f g _ _ c (h j l b))
 
-pub none-known : (w : List ℕ) → getD w knownAt 0 ≡ 0 → Known w (getD w knownAt 0)
+pub none-known : (f : ℕ → ℕ) (w : List ℕ) → getD w knownAt 0 ≡ 0 → Known f w (getD w knownAt 0)
 unfolding Known
-none-known w e j m = in-none j (rw e at m)
+none-known f w e j l m = in-none j (rw e at m)
 
 -- the word of one more role
 module _ (w : List ℕ) (j above : ℕ) (long : length w ≡ indexWords) (l : j < roleLimit) where
   pub noted-inside : knownAt < length (set w (aboveAt + j) above)
   noted-inside = rw length-set (omega arith)
 
-  pub learnt-noted : Known w (getD w knownAt 0) → Reaching w (single j) above → (x v : ℕ) → x ≡ getD (set w (aboveAt + j) above) knownAt 0 → v ≡ with x j
+  pub learnt-noted : Known (current w) w (getD w knownAt 0) → Reaching (current w) (single j) above → (x v : ℕ) → x ≡ getD (set w (aboveAt + j) above) knownAt 0 → v ≡ with x j
       → Learnt w (set (set w (aboveAt + j) above) knownAt v)
   unfolding Known
-  learnt-noted known r x v ex ev = record { long = length-set mid knownAt v ∙ length-set w (aboveAt + j) above; same = same; known = λ i m. go i m (ℕ-discrete i j) }
+  learnt-noted known r x v ex ev = record { long = length-set mid knownAt v ∙ length-set w (aboveAt + j) above; same = same; behind = behind; known = λ i b m. go i b m (ℕ-discrete i j) }
     where
       mid : List ℕ
       mid = set w (aboveAt + j) above
@@ -339,42 +309,45 @@ module _ (w : List ℕ) (j above : ℕ) (long : length w ≡ indexWords) (l : j 
       same : (k : ℕ) → k < knownAt → getD u k 0 ≡ getD w k 0
       same k b = getD-set-other mid knownAt k v 0 (λ q. omega arith) ∙ getD-set-other w (aboveAt + j) k above 0 (λ q. omega arith)
 
-      kept : (start a : ℕ) → Reaching w start a → Reaching u start a
-      kept start a = reaching-kept w u start a (λ k b. same k (omega arith))
+      behind : (k : ℕ) → rewiredAt ≤ k → getD u k 0 ≡ getD w k 0
+      behind k b = getD-set-other mid knownAt k v 0 (λ q. omega arith) ∙ getD-set-other w (aboveAt + j) k above 0 (λ q. omega arith)
+
+      kept : (start a : ℕ) → Reaching (current w) start a → Reaching (current u) start a
+      kept start a = reaching-kept (current w) (current u) start a (λ k b. same k (omega arith))
 
       is : getD u knownAt 0 ≡ with (getD w knownAt 0) j
       is = getD-set-same mid knownAt v 0 noted-inside ∙ ev ∙ ap (λ (y : ℕ). with y j) (ex ∙ getD-set-other w (aboveAt + j) knownAt above 0 (λ q. omega arith))
 
-      go : (i : ℕ) → has (getD u knownAt 0) i ≡ true → Dec (i ≡ j) → Reaching u (single i) (getD u (aboveAt + i) 0)
-      go i m (yes e) = rw (e, getD-set-other mid knownAt (aboveAt + j) v 0 (λ q. omega arith), getD-set-same w (aboveAt + j) above 0 (omega arith)) (kept (single j) above r)
-      go i m (no d) =
+      go : (i : ℕ) → i < roleLimit → has (getD u knownAt 0) i ≡ true → Dec (i ≡ j) → Reaching (current u) (single i) (getD u (aboveAt + i) 0)
+      go i b m (yes e) = rw (e, getD-set-other mid knownAt (aboveAt + j) v 0 (λ q. omega arith), getD-set-same w (aboveAt + j) above 0 (omega arith)) (kept (single j) above r)
+      go i b m (no d) =
           rw (getD-set-other mid knownAt (aboveAt + i) v 0 (λ q. omega arith), getD-set-other w (aboveAt + j) (aboveAt + i) above 0 (λ q. d (omega arith)))
-          (kept (single i) (getD w (aboveAt + i) 0) (known i (⊎-elim (λ e. absurd (d e)) (λ h. h) (with-has (getD w knownAt 0) j i (rw is at m)))))
+          (kept (single i) (getD w (aboveAt + i) 0) (known i b (⊎-elim (λ e. absurd (d e)) (λ h. h) (with-has (getD w knownAt 0) j i (rw is at m)))))
 
 pub ruleset notings = (noted-inside, learnt-noted)
 
 -- the words of the roles in `start` that are not in `rest` are put together
-pub record Gathering (w : List ℕ) (start rest seen : ℕ) : Type 0 where
+pub record Gathering (f : ℕ → ℕ) (start rest seen : ℕ) : Type 0 where
   pub in-rest : (i : ℕ) → has rest i ≡ true → has start i ≡ true
   pub starts : (i : ℕ) → has start i ≡ true → has rest i ≡ false → has seen i ≡ true
-  pub upward : Upward w start seen
+  pub upward : Upward f start seen
 
-pub none-upward : (w : List ℕ) (start : ℕ) → Upward w start 0
-none-upward w start = record { closed = λ j i l h m. in-none j h; least = λ H f g i h. in-none i h }
+pub none-upward : (f : ℕ → ℕ) (start : ℕ) → Upward f start 0
+none-upward f start = record { closed = λ j i l h m. in-none j h; least = λ H f g i h. in-none i h }
 
-pub gathering-start : (w : List ℕ) (start : ℕ) → Gathering w start start 0
-gathering-start w start = record { in-rest = λ i h. h; starts = λ i h n. in-not start i h n; upward = none-upward w start }
+pub gathering-start : (f : ℕ → ℕ) (start : ℕ) → Gathering f start start 0
+gathering-start f start = record { in-rest = λ i h. h; starts = λ i h n. in-not start i h n; upward = none-upward f start }
 
 -- what one of some leads to they all do
-pub one-upward : (w : List ℕ) (start j one : ℕ) → j < roleLimit → has start j ≡ true → Reaching w (single j) one → Upward w start one
-one-upward w start j one l m h = record {
+pub one-upward : (f : ℕ → ℕ) (start j one : ℕ) → j < roleLimit → has start j ≡ true → Reaching f (single j) one → Upward f start one
+one-upward f start j one l m h = record {
   closed = h .upward .closed;
-  least = λ H f g. h .upward .least H (λ i p. let e = power-is j i (rw (single-is j l) at p) in rw e (f j m)) g;
+  least = λ H a b. h .upward .least H (λ i p. let e = power-is j i (rw (single-is j l) at p) in rw e (a j m)) b;
 }
 
-module _ (w : List ℕ) (start rest seen : ℕ) (h : Gathering w start rest seen) where
-  pub gathering-more : (j next : ℕ) → Known w start → j ≡ trailingZeros 64 rest → has rest j ≡ true → j < roleLimit → next ≡ without rest (trailingZeros 64 rest)
-      → Gathering w start next (bitOr seen (getD w (aboveAt + j) 0))
+module _ (f : ℕ → ℕ) (w : List ℕ) (start rest seen : ℕ) (h : Gathering f start rest seen) where
+  pub gathering-more : (j next : ℕ) → Known f w start → j ≡ trailingZeros 64 rest → has rest j ≡ true → j < roleLimit → next ≡ without rest (trailingZeros 64 rest)
+      → Gathering f start next (bitOr seen (getD w (aboveAt + j) 0))
   unfolding Known
   gathering-more j next known ej m l en = record {
     in-rest = λ i p. h .in-rest i (without-has rest j i (rw is at p) .0);
@@ -383,7 +356,7 @@ module _ (w : List ℕ) (start rest seen : ℕ) (h : Gathering w start rest seen
       closed = λ k i b p q. ⊎-elim
           (λ y. has-or-l seen word i (h .upward .closed k i b y q))
           (λ y. has-or-r seen word i (own .closed k i b y q)) (or-has seen word k p);
-      least = λ H f g i p. ⊎-elim (h .upward .least H f g i) (own .least H f g i) (or-has seen word i p);
+      least = λ H a b i p. ⊎-elim (h .upward .least H a b i) (own .least H a b i) (or-has seen word i p);
     };
   }
     where
@@ -393,17 +366,17 @@ module _ (w : List ℕ) (start rest seen : ℕ) (h : Gathering w start rest seen
       is : next ≡ without rest j
       is = next-without rest j next ej en
 
-      reached : Reaching w (single j) word
-      reached = known j (h .in-rest j m)
+      reached : Reaching f (single j) word
+      reached = known j l (h .in-rest j m)
 
-      own : Upward w start word
-      own = one-upward w start j word l (h .in-rest j m) reached
+      own : Upward f start word
+      own = one-upward f start j word l (h .in-rest j m) reached
 
       go : (i : ℕ) → has start i ≡ true → has next i ≡ false → Dec (i ≡ j) → has (bitOr seen word) i ≡ true
       go i p n (yes e) = rw e (has-or-r seen word j (reached .starts j (rw (single-is j l) (power-in j))))
       go i p n (no d) = has-or-l seen word i (h .starts i p (not-in rest i (λ y. in-not next i (rw is (has-without rest j i y d)) n)))
 
-  pub gathering-done : rest ≤ 0 → Reaching w start seen
+  pub gathering-done : rest ≤ 0 → Reaching f start seen
   gathering-done z = let e : rest ≡ 0 = omega arith in record { starts = λ i p. h .starts i p (rw e (has-zero i)); upward = h .upward }
 
 pub ruleset gatherings = (fewer, gathering-start, gathering-more, gathering-done)

@@ -1,7 +1,9 @@
 pub mod AtomLaws
 mod IndexLaws
-mod SettleLaws
+mod KeepLaws
+mod SiftLaws
 mod TrackedLaws
+pub mod SettleLaws
 mod MutationLaws
 mod ListedLaws
 pub mod ChangeLaws

@@ -1,5 +1,5 @@
 -- A law for each return of settle.rt, and for its loops: one principal's places are right once they are made anew, and when no
--- principal is stale the sets are those of the policy.
+-- principal is left the sets are those of the policy.
 use mathlib.Core.Path.{_≡_, refl, sym, ap, _∙_}
 use Prim.Native.Nat.{ℕ, suc, _+_, _-_, _/_, _%_, _^_, _<_, _≤_}
 use mathlib.Core.Logic.{⊎-elim}
@@ -24,38 +24,39 @@ use Rattle.model.specs.Atoms.{atomSet}
 use Rattle.model.specs.Meaning.{meaning}
 use Rattle.model.proofs.Accepted.{accepted-facts}
 use Rattle.model.proofs.Below.{last-or}
-use Rattle.model.proofs.Least.{meaning-closed, meaning-least}
-use Rattle.model.proofs.Sets.{half-has, has-zero, not-in, in-not, in-none, has-or-l, has-or-r, or-has, and-has, or-grows, has-below, power-in, has-with-same, has-with, with-has, has-without, without-has, xor-has, xor-none, same-sets}
+use Rattle.model.proofs.Sets.{half-has, has-zero, not-in, in-not, in-none, has-or-l, has-or-r, or-has, and-has, or-grows, power-in, with-has, has-without, without-has, xor-has, xor-none, same-sets}
 use Rattle.model.proofs.Truth.{same-truth}
 use Rattle.shared.specs.Words.{single}
-use Rattle.shared.proofs.SetLaws.{single-is, held-power, next-without, fewer}
-use Rattle.update.specs.Live.{atomWords, FixedLive}
-use Rattle.update.specs.Index.{holdersAt, staleAt, knownAt, indexWords, Indexed, placed, Fresh, FewStale, Upward, Reaching, Known, Learnt, Tracked, Settled, Spread}
-use Rattle.update.proofs.IndexLaws.{count-is, placed-same, placed-other, transposed-kept, known-kept, none-upward, one-upward}
+use Rattle.shared.proofs.SetLaws.{single-is, next-without, fewer}
+use Rattle.update.specs.Live.{atomWords, Live}
+use Rattle.update.specs.Index.{holdersAt, movedAt, knownAt, rewiredAt, indexWords, current, before, Indexed, Untouched, placed, Few, Sifted, Fresh, Column, Upward, Reaching, Known, Learnt, Tracked, Settling, Settled, Spread}
+use Rattle.update.proofs.IndexLaws.{count-is, placed-same, placed-other, placed-both, placed-off, power-below, transposed-kept, known-kept, none-upward, one-upward}
+use Rattle.update.proofs.KeepLaws.{untouched-now}
+use Rattle.update.proofs.TrackedLaws.{few-roles, taker-there, column-means, tracked-live, fresh-sifted}
 use Rattle.update.proofs.AtomLaws.{behind}
 
 -- how far a search upwards has come: with the roles that are done, all that take them in are seen
-pub record Climbing (w : List ℕ) (start seen done : ℕ) : Type 0 where
+pub record Climbing (f : ℕ → ℕ) (start seen done : ℕ) : Type 0 where
   pub starts : (i : ℕ) → has start i ≡ true → has seen i ≡ true
   pub done-seen : (i : ℕ) → has done i ≡ true → has seen i ≡ true
-  pub done-closed : (j i : ℕ) → j < roleLimit → has done j ≡ true → has (getD w j 0) i ≡ true → has seen i ≡ true
-  pub least : (H : ℕ → Bool) → ((i : ℕ) → has start i ≡ true → H i ≡ true) → ((j i : ℕ) → j < roleLimit → H j ≡ true → has (getD w j 0) i ≡ true → H i ≡ true)
+  pub done-closed : (j i : ℕ) → j < roleLimit → has done j ≡ true → has (f j) i ≡ true → has seen i ≡ true
+  pub least : (H : ℕ → Bool) → ((i : ℕ) → has start i ≡ true → H i ≡ true) → ((j i : ℕ) → j < roleLimit → H j ≡ true → has (f j) i ≡ true → H i ≡ true)
       → (i : ℕ) → has seen i ≡ true → H i ≡ true
 
-pub climbing-start : (w : List ℕ) (start found : ℕ) → Upward w start found → Climbing w start (bitOr start found) found
-climbing-start w start found h = record {
+pub climbing-start : (f : ℕ → ℕ) (start found : ℕ) → Upward f start found → Climbing f start (bitOr start found) found
+climbing-start f start found h = record {
   starts = λ i p. has-or-l start found i p;
   done-seen = λ i p. has-or-r start found i p;
   done-closed = λ j i l p m. has-or-r start found i (h .closed j i l p m);
-  least = λ H f g i p. ⊎-elim (f i) (h .least H f g i) (or-has start found i p);
+  least = λ H a b i p. ⊎-elim (a i) (h .least H a b i) (or-has start found i p);
 }
 
-module _ (w : List ℕ) (start seen done left : ℕ) (e : left ≡ bitXor seen done) (h : Climbing w start seen done) where
+module _ (w : List ℕ) (start seen done left : ℕ) (e : left ≡ bitXor seen done) (h : Climbing (current w) start seen done) where
   module _ (j : ℕ) (m : has left j ≡ true) (small : j < roleLimit) where
     here : (has seen j ≡ true) × (has done j ≡ false)
     here = xor-has seen done j (h .done-seen j) (rw e at m)
 
-    pub climbing-more : (next : ℕ) → next ≡ with done j → Climbing w start (bitOr seen (getD w j 0)) next
+    pub climbing-more : (next : ℕ) → next ≡ with done j → Climbing (current w) start (bitOr seen (getD w j 0)) next
     climbing-more next n = rw n (record {
       starts = λ i p. has-or-l seen (getD w j 0) i (h .starts i p);
       done-seen = λ i p. has-or-l seen (getD w j 0) i (⊎-elim (λ q. rw q (here .0)) (h .done-seen i) (with-has done j i p));
@@ -68,7 +69,7 @@ module _ (w : List ℕ) (start seen done left : ℕ) (e : left ≡ bitXor seen d
     pub climbing-less : (next : ℕ) → next ≡ with done j → next < 2 ^ 64 → 2 ^ 64 - next < 2 ^ 64 - done
     climbing-less next n l = omega (arith, or-grows done (2 ^ j) j (power-in j) (here .1))
 
-  pub climbing-done : left ≤ 0 → Reaching w start seen
+  pub climbing-done : left ≤ 0 → Reaching (current w) start seen
   climbing-done z =
       let q : seen ≡ done = xor-none seen done (omega arith) in
       record { starts = h .starts; upward = record { closed = λ j i l p m. h .done-closed j i l (rw q at p) m; least = h .least } }
@@ -77,22 +78,22 @@ pub ruleset climbings = (climbing-start, climbing-more, climbing-less, climbing-
 
 -- the roles in `start` that are not known
 module _ (w : List ℕ) (start known : ℕ) (e : known ≡ getD w knownAt 0) where
-  pub all-known : Known w (getD w knownAt 0) → bitXor start (bitAnd start known) ≡ 0 → Known w start
+  pub all-known : Known (current w) w (getD w knownAt 0) → bitXor start (bitAnd start known) ≡ 0 → Known (current w) w start
   unfolding Known
-  all-known h z j m = h j (rw e at (and-has start known j (rw (← xor-none start (bitAnd start known) z) m) .1))
+  all-known h z j l m = h j l (rw e at (and-has start known j (rw (← xor-none start (bitAnd start known) z) m) .1))
 
-  pub first-upward : (j one : ℕ) → has (bitXor start (bitAnd start known)) j ≡ true → j < roleLimit → Reaching w (single j) one → Upward w start one
-  first-upward j one m l = one-upward w start j one l (xor-has start (bitAnd start known) j (λ p. and-has start known j p .0) m .0)
+  pub first-upward : (j one : ℕ) → has (bitXor start (bitAnd start known)) j ≡ true → j < roleLimit → Reaching (current w) (single j) one → Upward (current w) start one
+  first-upward j one m l = one-upward (current w) start j one l (xor-has start (bitAnd start known) j (λ p. and-has start known j p .0) m .0)
 
-pub learnt-nothing : (w : List ℕ) → Known w (getD w knownAt 0) → Learnt w w
-learnt-nothing w h = record { long = refl; same = λ k l. refl; known = h }
+pub learnt-nothing : (w : List ℕ) → Known (current w) w (getD w knownAt 0) → Learnt w w
+learnt-nothing w h = record { long = refl; same = λ k l. refl; behind = λ k l. refl; known = h }
 
-pub single-reaching : (w : List ℕ) (j x one : ℕ) → x ≡ single j → Reaching w x one → Reaching w (single j) one
-single-reaching w j x one e h = rw e at h
+pub single-reaching : (f : ℕ → ℕ) (j x one : ℕ) → x ≡ single j → Reaching f x one → Reaching f (single j) one
+single-reaching f j x one e h = rw e at h
 
 pub ruleset reachings = (all-known, none-upward, first-upward, learnt-nothing, single-reaching)
 
--- a set without a number, by putting it in first
+-- a set with or without a principal
 module _ (here : Bool) (old p x : ℕ) (l : p < principalLimit) (e : x ≡ single p) where
   bit-is : x ≡ 2 ^ p
   bit-is = e ∙ single-is p (omega arith)
@@ -101,26 +102,15 @@ module _ (here : Bool) (old p x : ℕ) (l : p < principalLimit) (e : x ≡ singl
   bit-fits = record { fits = rw bit-is (pow-lt l) }
 
   pub bit-below : x ≤ bitOr old x
-  bit-below = rw bit-is (held-power (with old p) p (has-with-same old p))
+  bit-below = rw bit-is (power-below old p)
 
-  pub placed-both : here ≡ true → bitOr old x ≡ placed here old p
-  unfolding placed
-  placed-both h = rw (h, bit-is) refl
+  pub bit-both : here ≡ true → bitOr old x ≡ placed here old p
+  bit-both h = rw bit-is (placed-both old p here h)
 
-  pub placed-off : here ≡ false → bitOr old x - x ≡ placed here old p
-  unfolding placed
-  placed-off h = rw (h, bit-is) (both ∙ same-sets (without (with old p) p) (without old p) out back)
-    where
-      both : with old p - 2 ^ p ≡ without (with old p) p
-      both = simp (has-with-same old p)
+  pub bit-off : here ≡ false → bitOr old x - x ≡ placed here old p
+  bit-off h = rw bit-is (placed-off old p here h)
 
-      out : (j : ℕ) → has (without (with old p) p) j ≡ true → has (without old p) j ≡ true
-      out j m = let (a, n) = without-has (with old p) p j m in ⊎-elim (λ q. absurd (n q)) (λ y. has-without old p j y n) (with-has old p j a)
-
-      back : (j : ℕ) → has (without old p) j ≡ true → has (without (with old p) p) j ≡ true
-      back j m = let (a, n) = without-has old p j m in has-without (with old p) p j (has-with old p j a) n
-
-pub ruleset placeds = (bit-fits, bit-below, placed-both, placed-off)
+pub ruleset placeds = (bit-fits, bit-below, bit-both, bit-off)
 
 pub place-so : (w : List ℕ) (i x p v : ℕ) (here : Bool) → x ≡ getD w i 0 → v ≡ placed here x p → set w i v ≡ set w i (placed here (getD w i 0) p)
 place-so w i x p v here e f = rw (f, e) refl
@@ -186,73 +176,52 @@ module _ (among p : ℕ) (w : List ℕ) where
 pub ruleset spreads = (spreading-start, spreading-more, spreading-done)
 
 -- the roles from which one that has the principal p as a member is reached are those that mean p
-module _ (s w : List ℕ) (ok : Accepted s) (h : Indexed s (roles s) w) (p among : ℕ) (l : p < principalLimit) (g : Reaching w (getD w (holdersAt + p) 0) among) where
-  few : roles s ≤ roleLimit
-  few = accepted-facts s ok .roles-fit
+module _ (s w : List ℕ) (ok : Accepted s) (h : Indexed s (roles s) w) (p among : ℕ) (l : p < principalLimit) (g : Reaching (current w) (getD w (holdersAt + p) 0) among) where
+  means : Column (roles s) (current w) (getD w (holdersAt + p) 0) (λ r. has (meaning s r) p)
+  means = column-means s w ok h p l
 
   among-means : (r : ℕ) → has among r ≡ true → has (meaning s r) p ≡ true
-  among-means = g .upward .least (λ r. has (meaning s r) p)
-      (λ i m. let b = h .holders .below p i l m in meaning-closed s .own i p b (sym (h .holders .same p i l b) ∙ m))
-      (λ j i k q m.
-      let z : 0 + j ≡ j = omega arith in
-      let n : has (getD w (0 + j) 0) i ≡ true = rw z m in
-      let b = h .takers .below j i k n in
-      let t : has (takes s i) j ≡ true = sym (h .takers .same j i k b) ∙ n in
-      meaning-closed s .taken i j p b (has-below (roles s) (takes s i) j (accepted-facts s ok .row i b .takes-below) t) t q)
+  among-means = g .upward .least (λ r. has (meaning s r) p) (λ i m. means .starts i (h .holders .below p i l m) m)
+      (λ j i k q m. let (a, b) = taker-there s w ok h j i k m in means .closed j i a b q m)
 
-  means-among : (r : ℕ) → has (meaning s r) p ≡ true → has among r ≡ true
-  means-among r m = meaning-least s (λ r q. q ≡ p → has among r ≡ true) (record {
-    own = λ i q b o e. g .starts i (h .holders .same p i l b ∙ rw e at o);
-    taken = λ i j q b c t f e.
-        let z : 0 + j ≡ j = omega arith in
-        let n : has (getD w (0 + j) 0) i ≡ true = h .takers .same j i (omega (arith, few)) b ∙ t in
-        g .upward .closed j i (omega (arith, few)) (f e) (rw z at n);
-  }) r p m refl
+  means-among : (r : ℕ) → r < roles s → has (meaning s r) p ≡ true → has among r ≡ true
+  means-among = means .least (has among) (λ i b m. g .starts i m) (λ j i a b q m. g .upward .closed j i (omega (arith, few-roles s w ok h)) q m)
 
-  pub among-is : (r : ℕ) → has among r ≡ has (meaning s r) p
-  among-is r = same-truth (has among r) (has (meaning s r) p) (among-means r) (means-among r)
+  pub among-is : (r : ℕ) → r < roles s → has among r ≡ has (meaning s r) p
+  among-is r b = same-truth (has among r) (has (meaning s r) p) (among-means r) (means-among r b)
 
 -- the words of a policy stay those where they are the same
-indexed-kept : (s : List ℕ) (n : ℕ) (w u : List ℕ) → Indexed s n w → length u ≡ length w → ((k : ℕ) → k < staleAt → getD u k 0 ≡ getD w k 0) → Indexed s n u
+indexed-kept : (s : List ℕ) (n : ℕ) (w u : List ℕ) → Indexed s n w → length u ≡ length w → ((k : ℕ) → k < movedAt → getD u k 0 ≡ getD w k 0) → Indexed s n u
 indexed-kept s n w u h long kept = record {
   long = long ∙ h .long;
   takers = transposed-kept (takes s) 0 roleLimit n w u (h .takers) (takes s) (λ i j k. refl) (λ j l. kept (0 + j) (omega arith));
   holders = transposed-kept (members s) holdersAt principalLimit n w u (h .holders) (members s) (λ i j k. refl) (λ j l. kept (holdersAt + j) (omega arith));
 }
 
--- the sets are right for all but the stale principals that are left
-pub record Settling (s atoms w : List ℕ) (stale : ℕ) : Type 0 where
-  pub fixed-live : FixedLive s atoms
-  pub indexed : Indexed s (roles s) w
-  pub few-stale : FewStale stale
-  pub fresh : Fresh s atoms stale
-  pub known : Known w (getD w knownAt 0)
-
-settled-from : (s atoms w : List ℕ) → FixedLive s atoms → Indexed s (roles s) w → getD w staleAt 0 ≡ 0 → Fresh s atoms 0 → Known w (getD w knownAt 0) → Settled s atoms w
-unfolding Fresh FewStale atomSet
-settled-from s atoms w f i z h k = record {
-  tracked = record { fixed-live = f; indexed = i; few-stale = λ p m. in-none p (rw z at m); fresh = rw z h; known = k };
-  live = record { accepted = f .accepted; long = f .long; sets = sets };
-}
-  where
-    sets : (a : Atom) → AtomFits (roles s) a → getD atoms (atomByte a) 0 ≡ atomSet s a
-    sets (role j) l = same-sets _ _ (λ p m. sym (h j p l (has-zero p)) ∙ m) (λ p m. h j p l (has-zero p) ∙ m)
-    sets (fixed a) l = f .sets a l
-
 module _ (s atoms w : List ℕ) where
   pub tracked-long : Tracked s atoms w → length w ≡ indexWords
-  tracked-long h = h .indexed .long
+  tracked-long h = h .mirrored .indexed .long
 
-  pub settled-already : Tracked s atoms w → (x : ℕ) → x ≡ getD w staleAt 0 → x ≡ 0 → Settled s atoms w
-  settled-already h x e z = settled-from s atoms w (h .fixed-live) (h .indexed) (sym e ∙ z) (rw (sym e ∙ z) at (h .fresh)) (h .known)
+  pub tracked-atoms : Tracked s atoms w → length atoms ≡ atomWords
+  tracked-atoms h = h .fixed-live .long
 
-  pub settling-start : Tracked s atoms w → (x : ℕ) → x ≡ getD w staleAt 0 → Settling s atoms w x
-  settling-start h x e = rw e record { fixed-live = h .fixed-live; indexed = h .indexed; few-stale = h .few-stale; fresh = h .fresh; known = h .known }
+  pub tracked-few : Tracked s atoms w → Few (getD w movedAt 0)
+  tracked-few h = h .mirrored .few-moved
 
-  module _ (stale : ℕ) (h : Settling s atoms w stale) where
-    pub settling-few : (p : ℕ) → has stale p ≡ true → p < principalLimit
-    unfolding FewStale
-    settling-few p m = h .few-stale p m
+  pub settling-start : (u : List ℕ) (some : ℕ) → Tracked s atoms w → Sifted atoms w u some → Settling s atoms u some
+  settling-start u some h g = record {
+    fixed-live = h .fixed-live;
+    indexed = indexed-kept s (roles s) w u (h .mirrored .indexed) (g .long) (g .same);
+    untouched = g .untouched;
+    few = g .few;
+    fresh = fresh-sifted s atoms w u some h g;
+    known = known-kept (before w) (current u) w u _ _ (h .known) (λ j m. let (b, c) = g .known j m in (b, λ k l. g .same k (omega arith) ∙ sym (c k l))) (g .above);
+  }
+
+  module _ (some : ℕ) (h : Settling s atoms w some) where
+    pub settling-few : (p : ℕ) → has some p ≡ true → p < principalLimit
+    unfolding Few
+    settling-few p m = h .few p m
 
     pub settling-roles : (c : ℕ) → c ≡ roles s → c ≤ roleLimit
     settling-roles c e = omega (arith, accepted-facts s (h .fixed-live .accepted) .roles-fit)
@@ -260,15 +229,15 @@ module _ (s atoms w : List ℕ) where
     pub settling-long : length w ≡ indexWords
     settling-long = h .indexed .long
 
-    pub settling-known : Known w (getD w knownAt 0)
+    pub settling-known : Known (current w) w (getD w knownAt 0)
     settling-known = h .known
 
     pub settling-atoms : length atoms ≡ atomWords
     settling-atoms = h .fixed-live .long
 
-    pub settling-more : (count p start among next : ℕ) (atoms₁ w₁ : List ℕ) → count ≡ roles s → p ≡ trailingZeros 64 stale → has stale p ≡ true → start ≡ getD w (holdersAt + p) 0
-        → Learnt w w₁ → Reaching w start among → Spread count among p atoms atoms₁ → next ≡ without stale (trailingZeros 64 stale) → Settling s atoms₁ w₁ next
-    unfolding Fresh FewStale
+    pub settling-more : (count p start among next : ℕ) (atoms₁ w₁ : List ℕ) → count ≡ roles s → p ≡ trailingZeros 64 some → has some p ≡ true → start ≡ getD w (holdersAt + p) 0
+        → Learnt w w₁ → Reaching (current w) start among → Spread count among p atoms atoms₁ → next ≡ without some (trailingZeros 64 some) → Settling s atoms₁ w₁ next
+    unfolding Fresh Few
     settling-more count p start among next atoms₁ w₁ ec ep m es new g d en = record {
       fixed-live = record {
         accepted = ok;
@@ -276,7 +245,8 @@ module _ (s atoms w : List ℕ) where
         sets = λ f l. d .outside (atomByte (fixed f)) (behind roleLimit (omega arith) f) ∙ h .fixed-live .sets f l;
       };
       indexed = indexed-kept s (roles s) w w₁ (h .indexed) (new .long) (λ k l. new .same k (omega arith));
-      few-stale = λ q n. h .few-stale q (without-has stale p q (rw is at n) .0);
+      untouched = record { none-moved = new .same movedAt (omega arith) ∙ h .untouched .none-moved; none-rewired = new .behind rewiredAt (omega arith) ∙ h .untouched .none-rewired };
+      few = λ q n. h .few q (without-has some p q (rw is at n) .0);
       fresh = λ r q l n. go r q l n (ℕ-discrete q p);
       known = new .known;
     }
@@ -284,21 +254,53 @@ module _ (s atoms w : List ℕ) where
         ok : Accepted s
         ok = h .fixed-live .accepted
 
-        is : next ≡ without stale p
-        is = next-without stale p next ep en
+        is : next ≡ without some p
+        is = next-without some p next ep en
 
         go : (r q : ℕ) → r < roles s → has next q ≡ false → Dec (q ≡ p) → has (getD atoms₁ r 0) q ≡ has (meaning s r) q
         go r q l n (yes e) =
-            rw (e, d .inside r (omega arith)) (placed-same (getD atoms r 0) p (has among r) ∙ among-is s w ok (h .indexed) p among (h .few-stale p m) (rw es at g) r)
+            rw (e, d .inside r (omega arith)) (placed-same (getD atoms r 0) p (has among r) ∙ among-is s w ok (h .indexed) p among (h .few p m) (rw es at g) r l)
         go r q l n (no c) =
-            rw (d .inside r (omega arith)) (placed-other (getD atoms r 0) p (has among r) q c ∙ h .fresh r q l (not-in stale q (λ y. in-not next q (rw is (has-without stale p q y c)) n)))
+            rw (d .inside r (omega arith)) (placed-other (getD atoms r 0) p (has among r) q c ∙ h .fresh r q l (not-in some q (λ y. in-not next q (rw is (has-without some p q y c)) n)))
 
-    pub settling-done : stale ≤ 0 → (w₁ : List ℕ) → w₁ ≡ set w staleAt 0 → Settled s atoms w₁
-    settling-done z w₁ e =
-        let n : stale ≡ 0 = omega arith in
-        let kept : (k : ℕ) → (k ≡ staleAt → ⊥) → getD w₁ k 0 ≡ getD w k 0 = λ k d. rw e (getD-set-other w staleAt k 0 0 d) in
-        settled-from s atoms w₁ (h .fixed-live) (indexed-kept s (roles s) w w₁ (h .indexed) (rw e (length-set w staleAt 0)) (λ k l. kept k (λ q. omega arith)))
-        (rw e (getD-set-same w staleAt 0 0 (omega (arith, h .indexed .long)))) (rw n at (h .fresh))
-        (known-kept w w₁ (h .known) (λ j m. (rw (← kept knownAt (λ q. omega arith)) m, λ k l. kept k (λ q. omega arith))) (λ k l. kept k (λ q. omega arith)))
+    pub settling-done : some ≤ 0 → Settled s atoms w
+    unfolding Fresh atomSet
+    settling-done z = record { tracked = tracked-live s atoms w live (h .indexed) (h .untouched) (h .known); live = live }
+      where
+        none : (p : ℕ) → has some p ≡ false
+        none p = let n : some ≡ 0 = omega arith in rw n (has-zero p)
 
-pub ruleset settlings = (fewer, count-is, settled-already, settling-start, settling-few, settling-roles, settling-long, settling-known, settling-atoms, tracked-long, settling-more, settling-done)
+        sets : (a : Atom) → AtomFits (roles s) a → getD atoms (atomByte a) 0 ≡ atomSet s a
+        sets (role j) l = same-sets _ _ (λ p m. sym (h .fresh j p l (none p)) ∙ m) (λ p m. h .fresh j p l (none p) ∙ m)
+        sets (fixed a) l = h .fixed-live .sets a l
+
+        live : Live s atoms
+        live = record { accepted = h .fixed-live .accepted; long = h .fixed-live .long; sets = sets }
+
+  -- where nothing was touched the sets are right
+  pub settled-already : Tracked s atoms w → (x : ℕ) → x ≡ bitOr (getD w movedAt 0) (getD w rewiredAt 0) → x ≡ 0 → Settled s atoms w
+  unfolding Few
+  settled-already h x e z = settling-done 0 (settling-start w 0 h still) (omega arith)
+    where
+      both : bitOr (getD w movedAt 0) (getD w rewiredAt 0) ≡ 0
+      both = sym e ∙ z
+
+      untouched : Untouched w
+      untouched = record {
+        none-moved = same-sets _ 0 (λ i m. rw both at (has-or-l (getD w movedAt 0) (getD w rewiredAt 0) i m)) (λ i m. in-none i m);
+        none-rewired = same-sets _ 0 (λ i m. rw both at (has-or-r (getD w movedAt 0) (getD w rewiredAt 0) i m)) (λ i m. in-none i m);
+      }
+
+      still : Sifted atoms w w 0
+      still = record {
+        long = refl;
+        same = λ k l. refl;
+        untouched = untouched;
+        known = λ j m. (m, λ k l. untouched-now w untouched k);
+        above = λ j l. refl;
+        few = λ p m. in-none p m;
+        holders = λ p l n. untouched-now w untouched (holdersAt + p);
+        takers = λ p k l m n. untouched-now w untouched k;
+      }
+
+pub ruleset settlings = (fewer, count-is, settled-already, settling-start, settling-few, settling-roles, settling-long, settling-known, settling-atoms, tracked-long, tracked-atoms, tracked-few, settling-more, settling-done)

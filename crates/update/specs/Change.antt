@@ -1,6 +1,6 @@
 -- What carrying out an update gives.
 use mathlib.Core.Path.{_≡_}
-use Prim.Native.Nat.{ℕ, _+_}
+use Prim.Native.Nat.{ℕ, _+_, _<_}
 use mathlib.Core.List.{List}
 use mathlib.Core.Bool.{Bool}
 use lib.ListN.{length}
@@ -11,7 +11,12 @@ use Rattle.model.specs.Syntax.{Query}
 use Rattle.model.specs.Program.{got, readMany, readQuery, readMutation}
 use Rattle.model.specs.Run.{mutateAll, broken}
 use Rattle.update.specs.Live.{Live}
-use Rattle.update.specs.Index.{Tracked}
+use Rattle.update.specs.Index.{Tracked, Settled}
+
+-- what is tracked of a policy, and the sets are right where something is listed
+pub record Prepared (count : ℕ) (s atoms w : List ℕ) : Type 0 where
+  pub tracked : Tracked s atoms w
+  pub settled : 0 < count → Settled s atoms w
 
 -- t is the policy s after the update whose code stands at a position, with what is tracked of it; and whether one of the
 -- queries listed at another position held under s and fails under t

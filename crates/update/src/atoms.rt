@@ -69,14 +69,6 @@ pub fn load(policy: &[u8], atoms: &mut [u32])
     load_meanings(policy, atoms);
 }
 
-// The set of an atom, by its byte.
-pub fn set_of(atoms: &[u32], k: usize) -> u32
-    requires { ⌜ k < length (now atoms) ⌝ }
-    ensures { λ r. ⌜ r ≡ getD (now (atoms .entry)) k 0 ⌝ }
-{
-    atoms[k]
-}
-
 // Whether a query holds: the second atom's set lies in the first's.
 pub fn holds(atoms: &[u32], first: u8, second: u8) -> bool
     requires { ⌜ length (now atoms) ≡ atomWords ⌝ }

@@ -1,14 +1,14 @@
 // An update: its mutations in the policy's bytes, the sets of the atoms after them, and whether a listed query broke.
 ghost use mathlib.Core.Path.{_≡_};
-ghost use Prim.Native.Nat.{_+_, _*_, _<_, _≤_};
+ghost use Prim.Native.Nat.{_+_, _*_, _≤_};
 ghost use lib.ListN.{length, replicate};
 ghost use Rattle.model.specs.Limits.{listLimit};
 ghost use Rattle.model.specs.Policy.{Accepted};
 ghost use Rattle.update.specs.Live.{atomWords};
-ghost use Rattle.update.specs.Index.{indexWords, Tracked, Settled};
+ghost use Rattle.update.specs.Index.{indexWords, Tracked, Settling};
 ghost use Rattle.update.specs.Mutations.{Mutable};
 ghost use Rattle.update.specs.Listed.{Listing};
-ghost use Rattle.update.specs.Change.{Judged, CarriedOut};
+ghost use Rattle.update.specs.Change.{Prepared, Judged, CarriedOut};
 use super::atoms;
 use super::index;
 use super::listed;
@@ -25,8 +25,39 @@ pub fn track(policy: &[u8], atoms: &mut [u32], index: &mut [u64])
     index::load(policy, index);
 }
 
+// Brings the sets up to date where something is listed: what holds before the update is then asked of them.
+fn prepare(count: u8, policy: &[u8], atoms: &mut [u32], index: &mut [u64])
+    requires { ⌜ Tracked (now policy) (now atoms) (now index) ⌝ }
+    ensures { λ _. ⌜ Prepared count (now (policy .entry)) (now (atoms .exit)) (now (index .exit)) ⌝ }
+{
+    if 0 < count {
+        settle::settle(policy, atoms, index);
+        return;
+    }
+}
+
+// Whether a listed query broke by mutations that can have changed the places of some principals. Until these are settled the
+// sets are those from before the mutations.
+fn judge(
+    program: &[u8],
+    listing: usize,
+    count: u8,
+    policy: &[u8],
+    atoms: &mut [u32],
+    index: &mut [u64],
+    some: u64,
+) -> bool
+    requires { ⌜ (Settling (now policy) (now atoms) (now index) some) × (count ≤ listLimit) × (listing + 2 * count ≤ length (now program)) ⌝ }
+    ensures { λ r. ⌜ Judged (now (program .entry)) listing count (now (policy .entry)) (now (atoms .entry)) (now (atoms .exit)) (now (index .exit)) r ⌝ }
+{
+    let before = listed::held(program, listing, count, atoms);
+    settle::settle_some(policy, atoms, index, some);
+    let after = listed::held(program, listing, count, atoms);
+    !sets::subset(before, after)
+}
+
 // Whether a listed query broke by mutations that were made in the policy since the sets were up to date; then they are again.
-// Where no principal's places are stale by them no query breaks. Until they are settled the sets are those from before.
+// Where nobody's places changed by them no query breaks.
 fn settle_judged(
     program: &[u8],
     listing: usize,
@@ -38,35 +69,19 @@ fn settle_judged(
     requires { ⌜ (Tracked (now policy) (now atoms) (now index)) × (count ≤ listLimit) × (listing + 2 * count ≤ length (now program)) ⌝ }
     ensures { λ r. ⌜ Judged (now (program .entry)) listing count (now (policy .entry)) (now (atoms .entry)) (now (atoms .exit)) (now (index .exit)) r ⌝ }
 {
-    if index::stale(index) == 0 {
+    if index::pending(index) == 0 {
         return false;
     }
-    let before = listed::held(program, listing, count, atoms);
-    settle::settle_all(policy, atoms, index);
-    let after = listed::held(program, listing, count, atoms);
-    !sets::subset(before, after)
-}
-
-// The update where the sets are up to date and something is listed.
-fn carry_out_settled(
-    program: &[u8],
-    at: usize,
-    listing: usize,
-    count: u8,
-    policy: &mut [u8],
-    atoms: &mut [u32],
-    index: &mut [u64],
-) -> bool
-    requires { ⌜ (Settled (now policy) (now atoms) (now index)) × (Mutable (now program) (now policy) at) × (Listing (now program) (now policy) count listing) × (0 < count) ⌝ }
-    ensures { λ r. ⌜ CarriedOut (now (program .entry)) (now (policy .entry)) at listing count (now (policy .exit)) (now (atoms .exit)) (now (index .exit)) r ⌝ }
-{
-    mutations::mutate_all(program, at, policy, atoms, index);
-    settle_judged(program, listing, count, policy, atoms, index)
+    let some = index::sift(atoms, index);
+    if some == 0 {
+        return false;
+    }
+    judge(program, listing, count, policy, atoms, index, some)
 }
 
 // Carries out the update whose code stands at `at`: true where one of the `count` queries listed from `listing` on held
 // before the whole update and fails after it. Where none is listed nothing asks for the sets, and they are settled when
-// something does.
+// something does. The mutations are made at one place in the code, where the compiler puts their loop.
 pub fn carry_out(
     program: &[u8],
     at: usize,
@@ -79,10 +94,10 @@ pub fn carry_out(
     requires { ⌜ (Tracked (now policy) (now atoms) (now index)) × (Mutable (now program) (now policy) at) × Listing (now program) (now policy) count listing ⌝ }
     ensures { λ r. ⌜ CarriedOut (now (program .entry)) (now (policy .entry)) at listing count (now (policy .exit)) (now (atoms .exit)) (now (index .exit)) r ⌝ }
 {
+    prepare(count, policy, atoms, index);
+    mutations::mutate_all(program, at, policy, index);
     if count == 0 {
-        mutations::mutate_all(program, at, policy, atoms, index);
         return false;
     }
-    settle::settle(policy, atoms, index);
-    carry_out_settled(program, at, listing, count, policy, atoms, index)
+    settle_judged(program, listing, count, policy, atoms, index)
 }

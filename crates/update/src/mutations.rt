@@ -1,110 +1,81 @@
 // The mutations of an update, made in the policy's bytes in written order, and noted beside them. Those that stand in an
-// accepted program are allowed, so the policy stays accepted, and its fixed part stays.
-ghost use mathlib.Core.Path.{_≡_};
-ghost use mathlib.Core.Bool.{true, false};
-ghost use Prim.Native.Nat.{_+_, _<_};
-ghost use lib.ListN.{length, getD};
-ghost use Rattle.model.specs.Limits.{principalLimit, roleLimit};
-ghost use Rattle.model.specs.Policy.{roles, HasRow};
-ghost use Rattle.model.specs.Mutation.{addMember, deleteMember, addTaken, deleteTaken, operandBelow, mutate};
+// accepted program are allowed, so the policy stays accepted, and its fixed part stays. One that changes nothing writes nothing.
+ghost use Prim.Native.Nat.{_+_, _<_, _≤_};
+ghost use lib.ListN.{length};
+ghost use Rattle.model.specs.Policy.{roles};
+ghost use Rattle.model.specs.Mutation.{operandBelow};
 ghost use Rattle.program.specs.Codes.{modelKind};
-ghost use Rattle.shared.specs.Words.{single};
-ghost use Rattle.update.specs.Live.{atomWords};
-ghost use Rattle.update.specs.Index.{holdersAt, indexWords, Turned, Noted, Tracked};
+ghost use Rattle.update.specs.Index.{Mirrored, memberKind, takenKind, Made};
 ghost use Rattle.update.specs.Mutations.{MutableOne, Mutable, MutatedOne, Mutated};
 use super::index;
 use gathered::positions;
 use policy::rows;
+use program::codes;
 use program::codes::Kind;
 use program::codes::KindOf;
 use shared::bytes;
-use shared::sets;
 
-fn add_member(policy: &mut [u8], index: &mut [u64], role: usize, x: u64)
-    requires { ⌜ (HasRow (now policy) role) × (length (now index) ≡ indexWords) × (role < roleLimit) × (x < principalLimit) ⌝ }
-    ensures made { λ _. ⌜ now (policy .exit) ≡ mutate (now (policy .entry)) addMember role x ⌝ }
-    ensures noted { λ _. ⌜ Turned (holdersAt + x) role true (single x) (now (index .entry)) (now (index .exit)) ⌝ }
+// Role `role` has the principal x as a member, or no longer.
+fn place_member(policy: &mut [u8], index: &mut [u64], role: usize, x: u64, present: bool)
+    requires { ⌜ (Mirrored (now policy) (now index)) × (role < roles (now policy)) × (x < operandBelow (now policy) (memberKind present)) ⌝ }
+    ensures { λ _. ⌜ Made (memberKind present) role x (now (policy .entry)) (now (index .entry)) (now (policy .exit)) (now (index .exit)) ⌝ }
 {
-    let members = sets::with(rows::members_of(policy, role) as u64, x);
-    rows::set_members(policy, role, members as u32);
-    index::note_member(index, role, x, true);
-}
-
-fn delete_member(policy: &mut [u8], index: &mut [u64], role: usize, x: u64)
-    requires { ⌜ (HasRow (now policy) role) × (length (now index) ≡ indexWords) × (role < roleLimit) × (x < principalLimit) ⌝ }
-    ensures made { λ _. ⌜ now (policy .exit) ≡ mutate (now (policy .entry)) deleteMember role x ⌝ }
-    ensures noted { λ _. ⌜ Turned (holdersAt + x) role false (single x) (now (index .entry)) (now (index .exit)) ⌝ }
-{
-    let members = sets::without(rows::members_of(policy, role) as u64, x);
-    rows::set_members(policy, role, members as u32);
-    index::note_member(index, role, x, false);
-}
-
-fn add_taken(policy: &mut [u8], atoms: &[u32], index: &mut [u64], role: usize, x: u64)
-    requires { ⌜ (HasRow (now policy) role) × (length (now atoms) ≡ atomWords) × (length (now index) ≡ indexWords) × (role < roleLimit) × (x < roleLimit) ⌝ }
-    ensures made { λ _. ⌜ now (policy .exit) ≡ mutate (now (policy .entry)) addTaken role x ⌝ }
-    ensures noted { λ _. ⌜ Turned x role true (getD (now (atoms .entry)) x 0) (now (index .entry)) (now (index .exit)) ⌝ }
-{
-    let takes = sets::with(rows::takes_of(policy, role), x);
-    rows::set_takes(policy, role, takes);
-    index::note_taken(atoms, index, role, x, true);
-}
-
-fn delete_taken(policy: &mut [u8], atoms: &[u32], index: &mut [u64], role: usize, x: u64)
-    requires { ⌜ (HasRow (now policy) role) × (length (now atoms) ≡ atomWords) × (length (now index) ≡ indexWords) × (role < roleLimit) × (x < roleLimit) ⌝ }
-    ensures made { λ _. ⌜ now (policy .exit) ≡ mutate (now (policy .entry)) deleteTaken role x ⌝ }
-    ensures noted { λ _. ⌜ Turned x role false (getD (now (atoms .entry)) x 0) (now (index .entry)) (now (index .exit)) ⌝ }
-{
-    let takes = sets::without(rows::takes_of(policy, role), x);
-    rows::set_takes(policy, role, takes);
-    index::note_taken(atoms, index, role, x, false);
-}
-
-// One mutation of a role's row, by its kind.
-fn mutate(policy: &mut [u8], atoms: &[u32], index: &mut [u64], kind: Kind, role: usize, x: u64)
-    requires { ⌜ (Tracked (now policy) (now atoms) (now index)) × (role < roles (now policy)) × (x < operandBelow (now policy) (modelKind kind)) ⌝ }
-    ensures made { λ _. ⌜ now (policy .exit) ≡ mutate (now (policy .entry)) (modelKind kind) role x ⌝ }
-    ensures noted { λ _. ⌜ Noted (modelKind kind) role x (now (atoms .entry)) (now (index .entry)) (now (index .exit)) ⌝ }
-{
-    match kind {
-        Kind::AddMember => add_member(policy, index, role, x),
-        Kind::DeleteMember => delete_member(policy, index, role, x),
-        Kind::AddTaken => add_taken(policy, atoms, index, role, x),
-        Kind::DeleteTaken => delete_taken(policy, atoms, index, role, x),
+    if index::note_member(index, role, x, present) {
+        let members = index::placed(present, rows::members_of(policy, role) as u64, x);
+        rows::set_members(policy, role, members as u32);
+        return;
     }
 }
 
-// The mutation that stands at a position.
-fn mutate_at(program: &[u8], at: usize, policy: &mut [u8], atoms: &[u32], index: &mut [u64])
-    requires { ⌜ (Tracked (now policy) (now atoms) (now index)) × MutableOne (now program) (now policy) at ⌝ }
-    ensures { λ _. ⌜ MutatedOne (now (program .entry)) (now (policy .entry)) at (now (policy .exit)) (now (atoms .entry)) (now (index .exit)) ⌝ }
+// Role `role` takes in role x, or no longer.
+fn place_taken(policy: &mut [u8], index: &mut [u64], role: usize, x: u64, present: bool)
+    requires { ⌜ (Mirrored (now policy) (now index)) × (role < roles (now policy)) × (x < operandBelow (now policy) (takenKind present)) ⌝ }
+    ensures { λ _. ⌜ Made (takenKind present) role x (now (policy .entry)) (now (index .entry)) (now (policy .exit)) (now (index .exit)) ⌝ }
 {
-    let KindOf::Is(kind) = positions::kind_at(program, at) else {
+    if index::note_taken(index, role, x, present) {
+        let takes = index::placed(present, rows::takes_of(policy, role), x);
+        rows::set_takes(policy, role, takes);
+        return;
+    }
+}
+
+// One mutation of a role's row, by its kind.
+fn mutate(policy: &mut [u8], index: &mut [u64], kind: Kind, role: usize, x: u64)
+    requires { ⌜ (Mirrored (now policy) (now index)) × (role < roles (now policy)) × (x < operandBelow (now policy) (modelKind kind)) ⌝ }
+    ensures { λ _. ⌜ Made (modelKind kind) role x (now (policy .entry)) (now (index .entry)) (now (policy .exit)) (now (index .exit)) ⌝ }
+{
+    match kind {
+        Kind::AddMember => place_member(policy, index, role, x, true),
+        Kind::DeleteMember => place_member(policy, index, role, x, false),
+        Kind::AddTaken => place_taken(policy, index, role, x, true),
+        Kind::DeleteTaken => place_taken(policy, index, role, x, false),
+    }
+}
+
+// The mutation that stands at a position. That its bytes are there is known from the program's check.
+fn mutate_at(program: &[u8], at: usize, policy: &mut [u8], index: &mut [u64])
+    requires { ⌜ (Mirrored (now policy) (now index)) × (MutableOne (now program) (now policy) at) × (at + 3 ≤ length (now program)) ⌝ }
+    ensures { λ _. ⌜ MutatedOne (now (program .entry)) (now (policy .entry)) at (now (index .entry)) (now (policy .exit)) (now (index .exit)) ⌝ }
+{
+    let KindOf::Is(kind) = codes::kind_of(program[at]) else {
         return;
     };
-    let role = bytes::byte_at(program, positions::ahead(program, at, 1));
-    let operand = bytes::byte_at(program, positions::ahead(program, at, 2));
-    mutate(
-        policy,
-        atoms,
-        index,
-        kind,
-        bytes::wide(role) as usize,
-        bytes::wide(operand) as u64,
-    );
+    let role = bytes::wide(program[at + 1]) as usize;
+    let x = bytes::wide(program[at + 2]) as u64;
+    mutate(policy, index, kind, role, x);
 }
 
 // All mutations of the update whose code stands at a position, in written order.
-pub fn mutate_all(program: &[u8], at: usize, policy: &mut [u8], atoms: &[u32], index: &mut [u64])
-    requires { ⌜ (Tracked (now policy) (now atoms) (now index)) × Mutable (now program) (now policy) at ⌝ }
-    ensures { λ _. ⌜ Mutated (now (program .entry)) (now (policy .entry)) at (now (policy .exit)) (now (atoms .entry)) (now (index .exit)) ⌝ }
+pub fn mutate_all(program: &[u8], at: usize, policy: &mut [u8], index: &mut [u64])
+    requires { ⌜ (Mirrored (now policy) (now index)) × (Mutable (now program) (now policy) at) × (at + 2 ≤ length (now program)) ⌝ }
+    ensures { λ _. ⌜ Mutated (now (program .entry)) (now (policy .entry)) at (now (index .entry)) (now (policy .exit)) (now (index .exit)) ⌝ }
 {
-    let count = bytes::byte_at(program, positions::ahead(program, at, 1));
-    let mut next = positions::ahead(program, at, 2);
+    let count = program[at + 1];
+    let mut next = at + 2;
     let mut i = 0;
     while i < count {
-        mutate_at(program, next, policy, atoms, index);
-        next = positions::ahead(program, next, positions::MUTATION_BYTES);
+        mutate_at(program, next, policy, index);
+        next = next + positions::MUTATION_BYTES;
         i += 1;
     }
 }

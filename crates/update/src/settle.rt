@@ -1,12 +1,12 @@
-// Brings the sets of the roles up to date, for the principals alone whose places are stale. Nothing else of a set can have
-// changed, so an update costs what it changes and not what the policy holds.
+// Brings the sets of the roles up to date, for the principals alone whose places may have changed since they were. So an update
+// costs what it changes and not what the policy holds, and one that comes to nothing costs next to nothing.
 ghost use mathlib.Core.Path.{_≡_};
 ghost use Prim.Native.Nat.{_<_, _≤_};
 ghost use lib.ListN.{length, getD, set};
 ghost use Rattle.model.specs.Limits.{principalLimit, roleLimit};
 ghost use Rattle.model.specs.Sets.{has};
 ghost use Rattle.update.specs.Live.{atomWords};
-ghost use Rattle.update.specs.Index.{knownAt, indexWords, placed, Tracked, Settled, Upward, Reaching, Known, Learnt, Spread};
+ghost use Rattle.update.specs.Index.{knownAt, indexWords, current, placed, Tracked, Settling, Settled, Upward, Reaching, Known, Learnt, Spread};
 use super::atoms;
 use super::index;
 use policy::rows;
@@ -16,8 +16,8 @@ use shared::sets;
 // The roles in `start`, those that take one of them in, those that take in one of these, and so on. Each is looked at once, and
 // those not at all that are already found: from them one of `start` is reached, and whatever takes one of them in is found too.
 fn climb(index: &[u64], start: u64, found: u64) -> u64
-    requires { ⌜ (length (now index) ≡ indexWords) × Upward (now index) start found ⌝ }
-    ensures { λ r. ⌜ Reaching (now (index .entry)) start r ⌝ }
+    requires { ⌜ (length (now index) ≡ indexWords) × Upward (current (now index)) start found ⌝ }
+    ensures { λ r. ⌜ Reaching (current (now (index .entry))) start r ⌝ }
 {
     let mut seen = start | found;
     let mut done = found;
@@ -35,9 +35,9 @@ fn climb(index: &[u64], start: u64, found: u64) -> u64
 // that take 3 ns each. Else one that is not known is looked at alone and noted. That adds no step, since the others go on from
 // what it found.
 fn reaching(index: &mut [u64], start: u64) -> u64
-    requires { ⌜ (length (now index) ≡ indexWords) × Known (now index) (getD (now index) knownAt 0) ⌝ }
+    requires { ⌜ (length (now index) ≡ indexWords) × Known (current (now index)) (now index) (getD (now index) knownAt 0) ⌝ }
     ensures learnt { λ _. ⌜ Learnt (now (index .entry)) (now (index .exit)) ⌝ }
-    ensures among { λ r. ⌜ Reaching (now (index .entry)) start r ⌝ }
+    ensures among { λ r. ⌜ Reaching (current (now (index .entry))) start r ⌝ }
 {
     let unknown = start ^ (start & index::known(index));
     if unknown == 0 {
@@ -98,28 +98,36 @@ fn spread(atoms: &mut [u32], count: usize, among: u64, p: u64)
     }
 }
 
-// One principal at a time.
+// Brings the places of some principals up to date, one principal at a time.
+pub fn settle_some(policy: &[u8], atoms: &mut [u32], index: &mut [u64], some: u64)
+    requires { ⌜ Settling (now policy) (now atoms) (now index) some ⌝ }
+    ensures { λ _. ⌜ Settled (now (policy .entry)) (now (atoms .exit)) (now (index .exit)) ⌝ }
+{
+    let count = bytes::wide(rows::roles_of(policy)) as usize;
+    let mut rest = some;
+    while 0 < rest {
+        let p = sets::lowest(rest);
+        let among = reaching(index, index::holders(index, p));
+        spread(atoms, count, among, p);
+        rest = sets::without_lowest(rest);
+    }
+}
+
+// Brings all places up to date.
 pub fn settle_all(policy: &[u8], atoms: &mut [u32], index: &mut [u64])
     requires { ⌜ Tracked (now policy) (now atoms) (now index) ⌝ }
     ensures { λ _. ⌜ Settled (now (policy .entry)) (now (atoms .exit)) (now (index .exit)) ⌝ }
 {
-    let count = bytes::wide(rows::roles_of(policy)) as usize;
-    let mut stale = index::stale(index);
-    while 0 < stale {
-        let p = sets::lowest(stale);
-        let among = reaching(index, index::holders(index, p));
-        spread(atoms, count, among, p);
-        stale = sets::without_lowest(stale);
-    }
-    index::set_fresh(index);
+    let some = index::sift(atoms, index);
+    settle_some(policy, atoms, index, some);
 }
 
-// Mostly no place is stale.
+// The same. Mostly nothing was touched.
 pub fn settle(policy: &[u8], atoms: &mut [u32], index: &mut [u64])
     requires { ⌜ Tracked (now policy) (now atoms) (now index) ⌝ }
     ensures { λ _. ⌜ Settled (now (policy .entry)) (now (atoms .exit)) (now (index .exit)) ⌝ }
 {
-    if index::stale(index) == 0 {
+    if index::pending(index) == 0 {
         return;
     }
     settle_all(policy, atoms, index);

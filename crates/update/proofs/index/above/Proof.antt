@@ -1,11 +1,12 @@
 -- The words of the roles that are not left are put together.
 use Rattle.update.proofs.IndexLaws.{Gathering, gatherings}
+use Rattle.update.specs.Index.{current}
 use borrow.Author.Needs.{needs}
 use Rattle.update.proofs.index.above.Statement.{statement}
 use Rattle.update.proofs.index.above.Tie as tie
 
 abbrev Inv-loop : tie.InvT-loop
-Inv-loop index start seen₀ rest₀ seen rest = Gathering index start rest seen
+Inv-loop index start seen₀ rest₀ seen rest = Gathering (current index) start rest seen
 
 abbrev μ-loop : tie.MeasureT-loop
 μ-loop index start seen₀ rest₀ seen rest = rest

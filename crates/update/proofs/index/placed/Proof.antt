@@ -4,4 +4,4 @@ use Rattle.update.proofs.index.placed.Statement.{statement}
 use Rattle.update.proofs.index.placed.Tie as tie
 
 pub placed-spec : {M : Type 1} → statement M
-placed-spec = tie.close (tie.spec (λ c κs. search (needs, placings)) (λ c. search (needs, placings)) (λ c κs. search (needs, placings)) (λ c. search (needs, placings)))
+placed-spec = tie.close (tie.spec (λ c. search (needs, placings)) (λ c. search (needs, placings)) (λ c. search (needs, placings)) (λ c. search (needs, placings)))

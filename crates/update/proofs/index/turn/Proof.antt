@@ -1,4 +1,4 @@
-use Rattle.update.proofs.IndexLaws.{turnings}
+use Rattle.update.proofs.KeepLaws.{turnings}
 use borrow.Author.Needs.{needs}
 use Rattle.update.proofs.index.turn.Statement.{statement}
 use Rattle.update.proofs.index.turn.Tie as tie
@@ -11,11 +11,7 @@ turn-spec =
     (λ c. search (needs, turnings))
     (λ c κs. search (needs, turnings))
     (λ c. search (needs, turnings))
-    (λ c. search (needs, turnings))
-    (λ c. search (needs, turnings))
-    (λ c. search (needs, turnings))
-    (λ c. search (needs, turnings))
-    (λ c. search (needs, turnings))
+    (λ c κs. search (needs, turnings))
     (λ c. search (needs, turnings))
     (λ c. search (needs, turnings))
     (λ c. search (needs, turnings))

@@ -3,12 +3,13 @@ use Prim.Native.Nat.{_-_, _^_}
 use mathlib.Core.Path.{_≡_}
 use lib.Bits.{bitXor}
 use Rattle.update.proofs.SettleLaws.{Climbing, climbings}
+use Rattle.update.specs.Index.{current}
 use borrow.Author.Needs.{needs}
 use Rattle.update.proofs.settle.climb.Statement.{statement}
 use Rattle.update.proofs.settle.climb.Tie as tie
 
 abbrev Inv-loop : tie.InvT-loop
-Inv-loop index start found seen₀ done₀ left₀ seen done left = (left ≡ bitXor seen done) × Climbing index start seen done
+Inv-loop index start found seen₀ done₀ left₀ seen done left = (left ≡ bitXor seen done) × Climbing (current index) start seen done
 
 abbrev μ-loop : tie.MeasureT-loop
 μ-loop index start found seen₀ done₀ left₀ seen done left = 2 ^ 64 - done

@@ -1,16 +1,18 @@
 use Rattle.update.proofs.MutationLaws.{ones}
 use borrow.Author.Needs.{needs}
-use Rattle.update.proofs.mutations.add_taken.Statement.{statement}
-use Rattle.update.proofs.mutations.add_taken.Tie as tie
+use Rattle.update.proofs.mutations.place_taken.Statement.{statement}
+use Rattle.update.proofs.mutations.place_taken.Tie as tie
 
-pub add-taken-spec : {M : Type 1} → statement M
-add-taken-spec =
+pub place-taken-spec : {M : Type 1} → statement M
+place-taken-spec =
     tie.close
     (tie.spec
     (λ c κs. search (needs, ones))
     (λ c κs. search (needs, ones))
     (λ c κs. search (needs, ones))
     (λ c κs. search (needs, ones))
+    (λ c. search (needs, ones))
+    (λ c. search (needs, ones))
     (λ c. search (needs, ones))
     (λ c. search (needs, ones))
     (λ c. search (needs, ones)))
