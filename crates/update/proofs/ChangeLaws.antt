@@ -1,6 +1,6 @@
 -- What carrying out an update gives, from its parts, and that an update and a list that stand under one policy do under another.
 use mathlib.Core.Path.{_≡_, refl, sym, _∙_}
-use Prim.Native.Nat.{ℕ, zero, suc, _+_, _-_, _*_, _≤_}
+use Prim.Native.Nat.{ℕ, zero, suc, _+_, _-_, _*_, _<_, _≤_}
 use native.Mathlib.Omega.{arith}
 use mathlib.Core.List.{List}
 use mathlib.Core.Bool.{Bool, true, false, not, _&&_, _||_}
@@ -49,11 +49,14 @@ made-tracked p s t w i i₁ at count made h = tracked-after s t w i i₁ (h .tra
 
 -- what is tracked when an update begins, with its sets up to date where something is listed
 module _ (s w i : List ℕ) (count : ℕ) where
-  pub prepared-none : count ≤ 0 → Tracked s w i → Prepared count s w i
+  pub prepared-none : count < 1 → Tracked s w i → Prepared count s w i
   prepared-none z h = record { tracked = h; settled = λ l. absurd (omega arith) }
 
   pub prepared-settled : Settled s w i → Prepared count s w i
   prepared-settled h = record { tracked = h .tracked; settled = λ l. h }
+
+  pub prepared-still : (x : ℕ) → Tracked s w i → x ≡ bitOr (getD i movedAt 0) (getD i rewiredAt 0) → x ≡ 0 → Prepared count s w i
+  prepared-still x h e z = prepared-settled (settled-already s w i h x e z)
 
   module _ (h : Prepared count s w i) where
     pub prepared-mirrored : Mirrored s i
@@ -80,7 +83,7 @@ module _ (s w i : List ℕ) (count : ℕ) where
       judged = j .judged s (h .settled (omega arith) .live) (made .same-fixed .same-roles);
     }
 
-pub ruleset prepareds = (prepared-none, prepared-settled)
+pub ruleset prepareds = (prepared-none, prepared-settled, prepared-still)
 
 module _ (p : List ℕ) (listing count : ℕ) (t w : List ℕ) where
   module _ (i : List ℕ) where

@@ -25,15 +25,19 @@ pub fn track(policy: &[u8], atoms: &mut [u32], index: &mut [u64])
     index::load(policy, index);
 }
 
-// Brings the sets up to date where something is listed: what holds before the update is then asked of them.
+// Brings the sets up to date where something is listed: what holds before the update is then asked of them. Mostly nothing was
+// touched, and then this is two tests and no call.
 fn prepare(count: u8, policy: &[u8], atoms: &mut [u32], index: &mut [u64])
     requires { ⌜ Tracked (now policy) (now atoms) (now index) ⌝ }
     ensures { λ _. ⌜ Prepared count (now (policy .entry)) (now (atoms .exit)) (now (index .exit)) ⌝ }
 {
-    if 0 < count {
-        settle::settle(policy, atoms, index);
+    if count < 1 {
         return;
     }
+    if index::pending(index) == 0 {
+        return;
+    }
+    settle::settle_all(policy, atoms, index);
 }
 
 // Whether a listed query broke by mutations that can have changed the places of some principals. Until these are settled the
