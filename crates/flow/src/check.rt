@@ -1,6 +1,7 @@
 // The flow rules over the bytes of a program that was read: 15 to 18 at the first statement in reading order, lowest number
 // first. Statement check and transaction check call each other, the remaining depth falling; a flag in the context forbids
-// nesting. Contracts speak of the tree that stands at a position; where none stands, any answer is right.
+// nesting. Contracts speak of the tree that stands at a position; where none stands, any answer is right. Policy and program go
+// from call to call by references to their slices: each is one register, where a slice is two words in memory.
 ghost use mathlib.Core.Path.{_≡_};
 ghost use mathlib.Core.Bool.{true};
 ghost use Prim.Native.Nat.{_<_};

@@ -1,4 +1,5 @@
-// Reading an expression, which calls itself with the remaining depth falling.
+// Reading an expression, which calls itself with the remaining depth falling. The program goes from call to call by a reference
+// to its slice, as in reading statements.
 ghost use mathlib.Core.Path.{_≡_};
 ghost use Rattle.model.specs.Program.{readExpr};
 ghost use Rattle.program.specs.Answer.{told, Within, endOf};

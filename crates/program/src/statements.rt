@@ -1,5 +1,6 @@
 // Reading a statement: a cycle of calls in which the remaining depth falls. Each function but the first reads one kind of
-// statement after its code, which stands just before `at`; `depth` is then what is left for the statements that it holds.
+// statement after its code, which stands just before `at`; `depth` is then what is left for the statements that it holds. The
+// program goes from call to call by a reference to its slice: that is one register, where a slice is two words in memory.
 ghost use mathlib.Core.Path.{_≡_};
 ghost use Prim.Native.Nat.{_-_};
 ghost use Rattle.model.specs.Program.{readStmt, blockAt, ifAt, whileAt, queryAt, transactionAt};
