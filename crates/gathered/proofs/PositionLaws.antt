@@ -86,9 +86,6 @@ expression-here p at b o e f = rw (← e) f
 pub atom-here : (p : List ℕ) (at b : ℕ) (o : AtomOf) → b ≡ byte p at → o ≡ atomOf b → o ≡ atomOf (byte p at)
 atom-here p at b o e f = rw (← e) f
 
-pub kind-here : (p : List ℕ) (at b : ℕ) (o : KindOf) → b ≡ byte p at → o ≡ kindOf b → o ≡ kindOf (byte p at)
-kind-here p at b o e f = rw (← e) f
-
 -- an operator's code is the one that reading knows it by
 pub operator-code : (op : Operator) → operatorByte op ≡ operatorCode (modelOperator op)
 operator-code Sum = refl

@@ -4,13 +4,12 @@ ghost use mathlib.Core.Path.{_≡_};
 ghost use Prim.Native.Nat.{_≤_};
 ghost use lib.Dec.{eqb};
 ghost use Rattle.model.specs.Bytes.{byte};
-ghost use Rattle.program.specs.Codes.{statementOf, expressionOf, atomOf, kindOf};
+ghost use Rattle.program.specs.Codes.{statementOf, expressionOf, atomOf};
 ghost use Rattle.gathered.specs.Positions.{ahead, afterList, ExprEnds};
 use program::codes;
 use program::codes::AtomOf;
 use program::codes::Expression;
 use program::codes::ExpressionOf;
-use program::codes::KindOf;
 use program::codes::StatementOf;
 use shared::bytes;
 
@@ -44,13 +43,6 @@ pub fn atom_at(program: &[u8], at: usize) -> AtomOf
     ensures { λ r. ⌜ r ≡ atomOf (byte (now (program .entry)) at) ⌝ }
 {
     codes::atom_of(bytes::byte_at(program, at))
-}
-
-// The kind of the mutation that stands at a position.
-pub fn kind_at(program: &[u8], at: usize) -> KindOf
-    ensures { λ r. ⌜ r ≡ kindOf (byte (now (program .entry)) at) ⌝ }
-{
-    codes::kind_of(bytes::byte_at(program, at))
 }
 
 // The position n bytes on, or the end.
