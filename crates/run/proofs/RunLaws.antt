@@ -22,8 +22,8 @@ use Rattle.model.specs.Machine.{answerOf}
 use Rattle.model.proofs.Accepted.{accepted-facts}
 use Rattle.model.proofs.FlowParts.{accepted-program}
 use Rattle.compile.specs.Represents.{Blank, Compiles}
-use Rattle.update.specs.Live.{atomWords}
-use Rattle.update.specs.Index.{indexWords, Tracked}
+use Rattle.tracked.specs.Live.{atomWords}
+use Rattle.tracked.specs.Index.{indexWords, Tracked}
 use Rattle.flow.specs.declared.verdict.Verdict.{Verdict}
 use Rattle.flow.specs.declared.verdict.Verdict.the-variants.{Fine, Refused}
 use Rattle.flow.specs.Verdict.{verdictOf}

@@ -12,8 +12,8 @@ use Rattle.compile.specs.Emits.{Room}
 use Rattle.compile.specs.Represents.{Blank, Starts}
 use Rattle.model.specs.Machine.{answerOf}
 use Rattle.model.specs.Calls.{runAnswer}
-use Rattle.update.specs.Live.{atomWords}
-use Rattle.update.specs.Index.{indexWords, Tracked}
+use Rattle.tracked.specs.Live.{atomWords}
+use Rattle.tracked.specs.Index.{indexWords, Tracked}
 use Rattle.machine.specs.declared.steps.Stop.{Stop}
 use Rattle.machine.specs.Steps.{leftOf, endingOf}
 

@@ -19,9 +19,9 @@ use program::layout;
 use shared::bytes;
 use shared::limit;
 use shared::number;
-use update::atoms;
+use tracked::atoms;
+use tracked::index;
 use update::change;
-use update::index;
 
 // What a run gives: document 01's number, and the units.
 pub struct Answer {

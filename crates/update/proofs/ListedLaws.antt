@@ -18,9 +18,9 @@ use Rattle.model.specs.Atoms.{holds}
 use Rattle.model.specs.Run.{broken}
 use Rattle.model.proofs.Sets.{has-zero, within-has, has-within, has-with, has-with-same, with-has, or-assoc}
 use Rattle.model.proofs.Standing.{many-none, many-more, query-parts}
-use Rattle.update.specs.Live.{Live}
+use Rattle.tracked.specs.Live.{Live}
 use Rattle.update.specs.Listed.{heldFrom, heldBits, HeldAt}
-use Rattle.update.proofs.AtomLaws.{query-decided}
+use Rattle.tracked.proofs.AtomLaws.{query-decided}
 
 -- one query noted
 module _ (bits w word : ℕ) (h : Bool) where

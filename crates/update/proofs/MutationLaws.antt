@@ -34,11 +34,11 @@ use Rattle.program.specs.declared.codes.KindOf.{KindOf}
 use Rattle.program.specs.declared.codes.KindOf.the-variants as kind
 use Rattle.program.specs.Codes.{kindOf, modelKind}
 use Rattle.gathered.proofs.PositionLaws.{mutation-known, mutation-kind}
-use Rattle.update.specs.Index.{holdersAt, indexWords, Mirrored, placed, turns, Kept, Turned, Noted, Made, memberKind, takenKind}
+use Rattle.tracked.specs.Index.{holdersAt, indexWords, Mirrored, placed, turns, Kept, Turned, Noted, Made, memberKind, takenKind}
 use Rattle.update.specs.Mutations.{Granted, MutableOne, Mutable, MutatedOne, Mutated}
-use Rattle.update.proofs.IndexLaws.{placed-same, placed-other}
-use Rattle.update.proofs.KeepLaws.{kept-same, kept-trans}
-use Rattle.update.proofs.TrackedLaws.{mirrored-mutated}
+use Rattle.tracked.proofs.IndexLaws.{placed-same, placed-other}
+use Rattle.tracked.proofs.KeepLaws.{kept-same, kept-trans}
+use Rattle.tracked.proofs.TrackedLaws.{mirrored-mutated}
 
 -- what a row is asked for, by the kind of mutation
 module _ (s w : List ℕ) (r x : ℕ) (h : Mirrored s w) where

@@ -9,7 +9,7 @@ use Rattle.model.specs.Policy.{roles}
 use Rattle.model.specs.Syntax.{Query}
 use Rattle.model.specs.Program.{got, readMany, readQuery}
 use Rattle.model.specs.Atoms.{holds}
-use Rattle.update.specs.Live.{Live}
+use Rattle.tracked.specs.Live.{Live}
 
 -- the numbers of those queries of a list that hold, where the first has number i
 unfoldable pub heldFrom : List ℕ → ℕ → List Query → ℕ

@@ -10,7 +10,7 @@ use Rattle.model.specs.Mutation.{operandBelow, allowed, mutate, Mutation}
 use Rattle.model.specs.Fits.{Each}
 use Rattle.model.specs.Program.{got, readMany, readMutation}
 use Rattle.model.specs.Run.{mutateAll}
-use Rattle.update.specs.Index.{Mirrored, Kept}
+use Rattle.tracked.specs.Index.{Mirrored, Kept}
 
 -- a mutation names a role, and a principal or role, that there are, and the policy allows it
 pub record Granted (s : List ℕ) (m : Mutation) : Type 0 where

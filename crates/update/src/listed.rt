@@ -5,12 +5,12 @@ ghost use Prim.Native.Nat.{_+_, _*_, _<_, _≤_};
 ghost use lib.ListN.{length};
 ghost use Rattle.model.specs.Limits.{listLimit};
 ghost use Rattle.model.specs.Sets.{with};
-ghost use Rattle.update.specs.Live.{atomWords};
+ghost use Rattle.tracked.specs.Live.{atomWords};
 ghost use Rattle.update.specs.Listed.{HeldAt};
-use super::atoms;
 use gathered::positions;
 use shared::bytes;
 use shared::sets;
+use tracked::atoms;
 
 // The bits with that of query i, if it holds.
 fn noted(bits: u64, i: u64, holds: bool) -> u64

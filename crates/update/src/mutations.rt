@@ -5,15 +5,15 @@ ghost use lib.ListN.{length};
 ghost use Rattle.model.specs.Policy.{roles};
 ghost use Rattle.model.specs.Mutation.{operandBelow};
 ghost use Rattle.program.specs.Codes.{modelKind};
-ghost use Rattle.update.specs.Index.{Mirrored, memberKind, takenKind, Made};
+ghost use Rattle.tracked.specs.Index.{Mirrored, memberKind, takenKind, Made};
 ghost use Rattle.update.specs.Mutations.{MutableOne, Mutable, MutatedOne, Mutated};
-use super::index;
 use gathered::positions;
 use policy::rows;
 use program::codes;
 use program::codes::Kind;
 use program::codes::KindOf;
 use shared::bytes;
+use tracked::index;
 
 // Role `role` has the principal x as a member, or no longer.
 fn place_member(policy: &mut [u8], index: &mut [u64], role: usize, x: u64, present: bool)

@@ -1,4 +1,4 @@
-use Rattle.update.proofs.TrackedLaws.{tracked-loaded}
+use Rattle.tracked.proofs.TrackedLaws.{tracked-loaded}
 use borrow.Author.Needs.{needs}
 use Rattle.update.proofs.change.track.Statement.{statement}
 use Rattle.update.proofs.change.track.Tie as tie

@@ -1,0 +1,6 @@
+pub mod AtomLaws
+pub mod IndexLaws
+pub mod KeepLaws
+mod SiftLaws
+pub mod TrackedLaws
+pub mod SettleLaws

@@ -1,7 +1,0 @@
-use Rattle.update.proofs.IndexLaws.{placings}
-use borrow.Author.Needs.{needs}
-use Rattle.update.proofs.index.placed.Statement.{statement}
-use Rattle.update.proofs.index.placed.Tie as tie
-
-pub placed-spec : {M : Type 1} → statement M
-placed-spec = tie.close (tie.spec (λ c. search (needs, placings)) (λ c. search (needs, placings)) (λ c. search (needs, placings)) (λ c. search (needs, placings)))
