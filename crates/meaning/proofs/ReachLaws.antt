@@ -10,18 +10,19 @@ use lib.ListN.{length, getD, set, length-set}
 use lib.Pow.{pow-lt, shr-shr}
 use lib.Seq.{getD-set-same, getD-set-other, ext-getD}
 use Rattle.model.specs.Limits.{roleLimit}
-use Rattle.model.specs.Sets.{has, with, without}
+use Rattle.model.specs.Sets.{has, with}
 use Rattle.model.specs.Policy.{roles, HasRow, members, takes, Accepted}
 use Rattle.model.specs.Meaning.{meanings, meaning}
 use Rattle.model.proofs.Accepted.{accepted-facts}
 use Rattle.model.proofs.Rows.{accepted-row}
-use Rattle.model.proofs.Sets.{in-not, in-none, has-or-l, has-or-r, or-has, or-grows, has-below, power-is, power-in, has-with-same, with-has, with-below, xor-has, xor-in, xor-none, subset-le, same-sets, has-without, without-has}
+use Rattle.model.proofs.Sets.{in-not, in-none, has-or-l, has-or-r, or-has, or-grows, has-below, power-is, power-in, has-with-same, with-has, with-below, xor-has, xor-in, xor-none, subset-le, same-sets, has-zero}
 use Rattle.model.proofs.Truth.{true-or-false}
 use Rattle.model.proofs.Least.{meaning-closed, meaning-least}
 use Rattle.policy.proofs.TakesLaws.{same-or}
 use Rattle.meaning.proofs.MeaningLaws.{meanings-length}
-use Rattle.shared.proofs.SetLaws.{fewer, next-without}
-use Rattle.meaning.specs.Reach.{Reached, Found, United, Searches}
+use Rattle.shared.specs.Words.{United}
+use Rattle.shared.proofs.UnionLaws.{unions}
+use Rattle.meaning.specs.Reach.{Reached, Found, Searches}
 
 -- a search begins with the role itself
 pub begun : (s : List ℕ) (r one : ℕ) → r < roles s → one ≡ with 0 r → Reached s r one 0 0
@@ -89,9 +90,6 @@ module _ (s : List ℕ) (r seen done bits : ℕ) (h : Reached s r seen done bits
     taken = λ j k q l i t f d. f (rw e at (h .done-taken j k d t));
   }) r p m (rw e at (h .start)))
 
-none-has : (j : ℕ) → has 0 j ≡ false
-none-has j = ⊎-elim (λ h. in-none j h) (λ h. h) (true-or-false (has 0 j))
-
 -- a choice that is true where its condition holds
 true-cond : (a b : Bool) → (a ≡ true → b ≡ true) → cond a b true ≡ true
 true-cond true b f = f refl
@@ -115,50 +113,11 @@ module _ (seen done left : ℕ) where
 pub left-whole : (s : List ℕ) (r seen done bits left : ℕ) → Reached s r seen done bits → left ≡ bitXor seen done → left ≤ 0 → bits ≡ meaning s r
 left-whole s r seen done bits left h e z = whole s r seen done bits h (left-none seen done left e z)
 
--- what some roles have is put together, row by row
-module _ (f : ℕ → ℕ) (some : ℕ) where
-  pub united-none : (old : ℕ) → United f some some old old
-  united-none old = record {
-    kept = λ k h. h;
-    added = λ j k h n. in-not some j h n;
-    least = λ H a b k h. a k h;
-    below = λ n l g. l;
-  }
+-- a role that is still left of some has a row
+pub left-row : (s : List ℕ) → Accepted s → (some : ℕ) → some < 2 ^ roles s → (j : ℕ) → has some j ≡ true → HasRow s j
+left-row s ok some l j m = accepted-row s ok (roles s) j refl (has-below (roles s) some j l m)
 
-  module _ (rest old new : ℕ) (u : United f some rest old new) where
-    pub united-turn : (j x next : ℕ) → has some j ≡ true → x ≡ f j → next ≡ without rest j → United f some next old (bitOr new x)
-    united-turn j x next m e w = rw (e, w) (record {
-      kept = λ k h. has-or-l new (f j) k (u .kept k h);
-      added = λ i k h n t. ⊎-elim (λ q. has-or-r new (f j) k (rw q at t)) (λ q. has-or-l new (f j) k (u .added i k h (not-rest i q n) t)) (same-or i j);
-      least = λ H a b k h. ⊎-elim (λ g. u .least H a b k g) (λ g. b j k m g) (or-has new (f j) k h);
-      below = λ n l g. or-lt n new (f j) (u .below n l g) (g j m);
-    })
-      where
-        not-rest : (i : ℕ) → (i ≡ j → ⊥) → has (without rest j) i ≡ false → has rest i ≡ false
-        not-rest i q n = ⊎-elim (λ h. in-not (without rest j) i (has-without rest j i h q) n) (λ h. h) (true-or-false (has rest i))
-
-    pub united-all : rest ≤ 0 → United f some 0 old new
-    united-all z = let e : 0 ≡ rest = omega arith in rw e u
-
--- the roles that are left lie among some
-pub record Rest (some rest : ℕ) : Type 0 where
-  pub among : (j : ℕ) → has rest j ≡ true → has some j ≡ true
-
-pub rest-all : (some : ℕ) → Rest some some
-rest-all some = record { among = λ j h. h }
-
-module _ (some rest : ℕ) (x : Rest some rest) where
-  pub rest-less : (j next : ℕ) → next ≡ without rest j → Rest some next
-  rest-less j next w = rw w (record { among = λ i h. x .among i (without-has rest j i h .0) })
-
-  module _ (j : ℕ) (m : has rest j ≡ true) where
-    pub rest-has : has some j ≡ true
-    rest-has = x .among j m
-
-    pub rest-row : (s : List ℕ) → Accepted s → some < 2 ^ roles s → HasRow s j
-    rest-row s ok l = accepted-row s ok (roles s) j refl (has-below (roles s) some j l (x .among j m))
-
-pub ruleset row-laws = (united-none, united-turn, united-all, rest-all, rest-less, rest-has, rest-row, fewer, next-without)
+pub ruleset row-laws = (left-row, unions)
 
 -- a search is done with all that was left, once what these take in is seen and their members are added
 module _ (s : List ℕ) (ok : Accepted s) (r seen done bits new : ℕ) (h : Reached s r seen done bits) (e : new ≡ bitXor seen done) where
@@ -181,8 +140,8 @@ module _ (s : List ℕ) (ok : Accepted s) (r seen done bits new : ℕ) (h : Reac
     done-seen = λ j d. t .kept j d;
     seen-means = λ k p. means k p;
     bits-means = m .least (λ p. has (meaning s r) p) (h .bits-means) (λ j p k o. h .seen-means j p (left-seen j k) (meaning-closed s .own j p (left-role j k) o));
-    done-own = λ j p d o. ⊎-elim (λ a. m .kept p (h .done-own j p a o)) (λ a. m .added j p a (none-has j) o) (left-or j d);
-    done-taken = λ j k d q. ⊎-elim (λ a. t .kept k (h .done-taken j k a q)) (λ a. t .added j k a (none-has j) q) (left-or j d);
+    done-own = λ j p d o. ⊎-elim (λ a. m .kept p (h .done-own j p a o)) (λ a. m .added j p a (has-zero j) o) (left-or j d);
+    done-taken = λ j k d q. ⊎-elim (λ a. t .kept k (h .done-taken j k a q)) (λ a. t .added j k a (has-zero j) q) (left-or j d);
   }
     where
       means : (k p : ℕ) → has seen′ k ≡ true → has (meaning s k) p ≡ true → has (meaning s r) p ≡ true

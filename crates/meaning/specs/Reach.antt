@@ -1,7 +1,7 @@
 -- How far a search from a role has come.
 use mathlib.Core.Path.{_≡_}
 use mathlib.Core.List.{List}
-use mathlib.Core.Bool.{Bool, true, false}
+use mathlib.Core.Bool.{true}
 use Prim.Native.Nat.{ℕ, _^_, _<_, _≤_}
 use lib.ListN.{length, getD}
 use Rattle.model.specs.Limits.{roleLimit}
@@ -23,14 +23,6 @@ pub record Reached (s : List ℕ) (r seen done bits : ℕ) : Type 0 where
 pub record Found (s : List ℕ) (r seen done bits : ℕ) : Type 0 where
   pub reached : Reached s r seen done bits
   pub self : has done r ≡ true
-
--- `new` has what `old` has and all of the sets f j of those roles j that are in one set and not in another, and nothing else but
--- of sets of the first
-pub record United (f : ℕ → ℕ) (some rest old new : ℕ) : Type 0 where
-  pub kept : (k : ℕ) → has old k ≡ true → has new k ≡ true
-  pub added : (j k : ℕ) → has some j ≡ true → has rest j ≡ false → has (f j) k ≡ true → has new k ≡ true
-  pub least : (H : ℕ → Bool) → ((k : ℕ) → has old k ≡ true → H k ≡ true) → ((j k : ℕ) → has some j ≡ true → has (f j) k ≡ true → H k ≡ true) → (k : ℕ) → has new k ≡ true → H k ≡ true
-  pub below : (n : ℕ) → old < 2 ^ n → ((j : ℕ) → has some j ≡ true → f j < 2 ^ n) → new < 2 ^ n
 
 -- the searches from role n on side by side, with room for those from all roles
 pub record Searches (s : List ℕ) (n : ℕ) (seen done sets : List ℕ) : Type 0 where

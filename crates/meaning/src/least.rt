@@ -1,12 +1,12 @@
 // The meaning of a role: the least sets where each role holds its members and all that the roles it takes hold.
 ghost use mathlib.Core.Path.{_≡_};
-ghost use mathlib.Core.Bool.{true};
 ghost use Prim.Native.Nat.{_+_, _^_, _<_};
 ghost use lib.ListN.{length};
 ghost use Rattle.model.specs.Sets.{has};
 ghost use Rattle.model.specs.Policy.{roles, members, takes, Accepted};
 ghost use Rattle.model.specs.Meaning.{meanings, meaning, answer, meaningOf};
-ghost use Rattle.meaning.specs.Reach.{Found, United, Searches};
+ghost use Rattle.shared.specs.Words.{United};
+ghost use Rattle.meaning.specs.Reach.{Found, Searches};
 use policy::check;
 use policy::rows;
 use shared::bytes;

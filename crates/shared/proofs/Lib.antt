@@ -1,2 +1,3 @@
 pub mod SetLaws
+pub mod UnionLaws
 pub mod ByteLaws

@@ -20,7 +20,8 @@ use Rattle.model.specs.Sets.{has, without}
 use Rattle.model.proofs.Sets.{has-zero, not-in, in-not, in-none, has-or-l, has-or-r, or-has, has-below, has-without, without-has}
 use Rattle.model.proofs.Truth.{true-or-false}
 use Rattle.shared.proofs.SetLaws.{next-without, fewer}
-use Rattle.tracked.specs.Index.{holdersAt, movedAt, knownAt, aboveAt, rewiredAt, beforeAt, indexWords, touched, before, SetInside, Few, placed, Changed, United, Cleared, Sifted}
+use Rattle.shared.specs.Words.{United}
+use Rattle.tracked.specs.Index.{holdersAt, movedAt, knownAt, aboveAt, rewiredAt, beforeAt, indexWords, current, touched, before, SetInside, Few, placed, Changed, Cleared, Sifted}
 use Rattle.tracked.proofs.IndexLaws.{placed-same, placed-other}
 use Rattle.tracked.proofs.KeepLaws.{mark-member, mark-taken, touched-by, before-kept, before-now}
 
@@ -99,27 +100,6 @@ module _ (from all rest : ℕ) (w : List ℕ) (found : ℕ) (h : Comparing from 
 
 pub ruleset comparings = (fewer, comparing-start, compared-inside, compared-fits, compared-wide, kept-inside, kept-fits, kept-wide, comparing-more, comparing-done)
 
--- the sets of those roles that are not in `rest` are put together
-pub record Uniting (atoms : List ℕ) (some rest found : ℕ) : Type 0 where
-  pub united : (j p : ℕ) → has some j ≡ true → has rest j ≡ false → has (getD atoms j 0) p ≡ true → has found p ≡ true
-
-pub uniting-start : (atoms : List ℕ) (some : ℕ) → Uniting atoms some some 0
-uniting-start atoms some = record { united = λ j p h n m. in-not some j h n }
-
-module _ (atoms : List ℕ) (some rest found : ℕ) (h : Uniting atoms some rest found) where
-  pub uniting-more : (j next : ℕ) → j ≡ trailingZeros 64 rest → next ≡ without rest (trailingZeros 64 rest) → Uniting atoms some next (bitOr found (getD atoms j 0))
-  uniting-more j next ej en = record { united = λ l p s n m. go l p s n m (ℕ-discrete l j) }
-    where
-      go : (l p : ℕ) → has some l ≡ true → has next l ≡ false → has (getD atoms l 0) p ≡ true → Dec (l ≡ j) → has (bitOr found (getD atoms j 0)) p ≡ true
-      go l p s n m (yes e) = has-or-r found (getD atoms j 0) p (rw e at m)
-      go l p s n m (no d) = has-or-l found (getD atoms j 0) p (h .united l p s (done-was rest j next ej en l n d) m)
-
-  pub uniting-done : rest ≤ 0 → United atoms some found
-  unfolding United
-  uniting-done z = let e : rest ≡ 0 = omega arith in λ j p s m. h .united j p s (rw e (has-zero j)) m
-
-pub ruleset unitings = (fewer, uniting-start, uniting-more, uniting-done)
-
 -- nothing is touched any more
 module _ (rewired : ℕ) (w : List ℕ) (long : length w ≡ indexWords) where
   mid : List ℕ
@@ -186,7 +166,7 @@ module _ (w : List ℕ) (k x from set r : ℕ) (g : Changed from set w r) (e : k
   unchanged n = ⊎-elim (λ y. before-kept w k (is-mark ∙ y) ∙ rw e (g .same x y n)) (λ z. before-now w k (is-mark ∙ z)) (true-or-false (has set x))
 
 module _ (atoms w u : List ℕ) (x y moved rewired all : ℕ) (ex : x ≡ getD w movedAt 0) (ey : y ≡ getD w rewiredAt 0) (few : Few (getD w movedAt 0))
-    (f : Changed holdersAt x w moved) (g : Changed 0 y w rewired) (h : Cleared rewired w u) (a : United atoms rewired all) (small : all < 2 ^ 32) where
+    (f : Changed holdersAt x w moved) (g : Changed 0 y w rewired) (h : Cleared rewired w u) (a : United (current atoms) rewired 0 0 all) (small : all < 2 ^ 32) where
   taker-same : (k : ℕ) → k < roleLimit → has rewired k ≡ false → before w k ≡ getD w k 0
   taker-same k l n =
       let z : k ≡ 0 + k = omega arith in
@@ -196,7 +176,7 @@ module _ (atoms w u : List ℕ) (x y moved rewired all : ℕ) (ex : x ≡ getD w
   not-left p n = not-in moved p (λ m. in-not (bitOr moved all) p (has-or-l moved all p m) n)
 
   pub sifted : Sifted atoms w u (bitOr moved all)
-  unfolding Few United
+  unfolding Few
   sifted = record {
     long = h .long;
     same = h .same;
@@ -205,7 +185,7 @@ module _ (atoms w u : List ℕ) (x y moved rewired all : ℕ) (ex : x ≡ getD w
     above = h .above;
     few = λ p m. ⊎-elim (λ b. few p (rw ex at (f .inside p b))) (λ b. has-below 32 all p small b) (or-has moved all p m);
     holders = λ p l n. unchanged w (holdersAt + p) p holdersAt x moved f refl (touched-by (holdersAt + p) movedAt p (mark-member p l) w ∙ rw ex refl) (not-left p n);
-    takers = λ p k l m n. taker-same k l (not-in rewired k (λ b. in-not (bitOr moved all) p (has-or-r moved all p (a k p b m)) n));
+    takers = λ p k l m n. taker-same k l (not-in rewired k (λ b. in-not (bitOr moved all) p (has-or-r moved all p (a .added k p b (has-zero k) m)) n));
   }
 
 pub ruleset siftings = (holders-inside, takers-inside, sifted)

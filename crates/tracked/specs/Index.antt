@@ -38,7 +38,7 @@ beforeAt = rewiredAt + 1
 abbrev pub indexWords : ℕ
 indexWords = beforeAt + movedAt
 
--- word k, of a role that is taken in or of a principal
+-- word k, of a role that is taken in or of a principal; of the sets, that of role k
 abbrev pub current : List ℕ → ℕ → ℕ
 current w k = getD w k 0
 
@@ -152,10 +152,6 @@ takenKind present = cond present addTaken deleteTaken
 pub record Changed (from set : ℕ) (w : List ℕ) (r : ℕ) : Type 0 where
   pub inside : (j : ℕ) → has r j ≡ true → has set j ≡ true
   pub same : (j : ℕ) → has set j ≡ true → has r j ≡ false → getD w (beforeAt + (from + j)) 0 ≡ getD w (from + j) 0
-
--- r has all that is in the sets of some roles
-unfoldable pub United : List ℕ → ℕ → ℕ → Type 0
-United atoms some r = (j p : ℕ) → has some j ≡ true → has (getD atoms j 0) p ≡ true → has r p ≡ true
 
 -- u is w with no word touched; what is known was known, and then no role was rewired
 pub record Cleared (rewired : ℕ) (w u : List ℕ) : Type 0 where

@@ -9,9 +9,9 @@ ghost use lib.Bits.{bitOr};
 ghost use lib.ListN.{length, getD, replicate};
 ghost use Rattle.model.specs.Limits.{principalLimit, roleLimit};
 ghost use Rattle.model.specs.Policy.{roles, Accepted};
-ghost use Rattle.shared.specs.Words.{single};
+ghost use Rattle.shared.specs.Words.{single, United};
 ghost use Rattle.tracked.specs.Live.{atomWords};
-ghost use Rattle.tracked.specs.Index.{holdersAt, movedAt, knownAt, rewiredAt, indexWords, current, Mark, SetInside, Entered, Loaded, Few, placed, turns, Marked, Turned, Changed, United, Cleared, Sifted, Reaching, Known, Learnt};
+ghost use Rattle.tracked.specs.Index.{holdersAt, movedAt, knownAt, rewiredAt, indexWords, current, Mark, SetInside, Entered, Loaded, Few, placed, turns, Marked, Turned, Changed, Cleared, Sifted, Reaching, Known, Learnt};
 use policy::rows;
 use shared::bytes;
 use shared::sets;
@@ -155,7 +155,7 @@ fn changed(index: &[u64], from: usize, set: u64) -> u64
 // All that are in the sets of some roles.
 fn union_of(atoms: &[u32], some: u64) -> u32
     requires { ⌜ length (now atoms) ≡ atomWords ⌝ }
-    ensures { λ r. ⌜ United (now (atoms .entry)) some r ⌝ }
+    ensures { λ r. ⌜ United (current (now (atoms .entry))) some 0 0 r ⌝ }
 {
     let mut found = 0;
     let mut rest = some;

@@ -1,11 +1,13 @@
 -- The sets of the roles that are not left are put together.
-use Rattle.tracked.proofs.SiftLaws.{Uniting, unitings}
+use Rattle.shared.specs.Words.{United}
+use Rattle.shared.proofs.UnionLaws.{unions}
+use Rattle.tracked.specs.Index.{current}
 use borrow.Author.Needs.{needs}
 use Rattle.tracked.proofs.index.union_of.Statement.{statement}
 use Rattle.tracked.proofs.index.union_of.Tie as tie
 
 abbrev Inv-loop : tie.InvT-loop
-Inv-loop atoms some found₀ rest₀ found rest = Uniting atoms some rest found
+Inv-loop atoms some found₀ rest₀ found rest = United (current atoms) some rest 0 found
 
 abbrev μ-loop : tie.MeasureT-loop
 μ-loop atoms some found₀ rest₀ found rest = rest
@@ -16,11 +18,11 @@ union-of-spec =
     (tie.spec
     Inv-loop
     μ-loop
-    (λ c. search (needs, unitings))
-    (λ c κs. search (needs, unitings))
-    (λ c. search (needs, unitings))
-    (λ c. search (needs, unitings))
-    (λ c κs. search (needs, unitings))
-    (λ c. search (needs, unitings))
-    (λ c. search (needs, unitings))
-    (λ c. search (needs, unitings)))
+    (λ c. search (needs, unions))
+    (λ c κs. search (needs, unions))
+    (λ c. search (needs, unions))
+    (λ c. search (needs, unions))
+    (λ c κs. search (needs, unions))
+    (λ c. search (needs, unions))
+    (λ c. search (needs, unions))
+    (λ c. search (needs, unions)))
