@@ -1,13 +1,14 @@
 -- A law for each return and each turn of memory.rt: what was written has its values, what comes behind is as it was.
 use Prim.Native.Nat.{ℕ, zero, suc, _+_, _*_, _<_, _≤_}
 use native.Mathlib.Omega.{arith}
+use native.Mathlib.Decide.{decLt}
 use native.Mathlib.Numerals.{add-one}
 use mathlib.Core.Path.{_≡_, refl, sym, ap, _∙_}
 use mathlib.Core.List.{List, [], _∷_, _++_}
 use mir.Val.{Fits}
 use mir.Syntax.{w8, w32}
 use lib.ListN.{length, getD, set, take, length-set}
-use lib.Seq.{getD-set-other, take-suc-set}
+use lib.Seq.{getD-set-other, getD-take, take-suc-set}
 use Rattle.model.specs.Meaning.{column}
 use Rattle.model.specs.Value.{valueAt}
 use Rattle.model.specs.Bytes.{word}
@@ -68,6 +69,19 @@ column-take w (suc n) l = take-suc w n (omega arith) ∙ ap (λ (y : List ℕ). 
     take-suc [] n l = absurd (omega arith)
     take-suc (x ∷ w) zero l = refl
     take-suc (x ∷ w) (suc n) l = ap (λ (y : List ℕ). x ∷ y) (take-suc w n (omega arith))
+
+-- the same words at the same places, below n by what is taken and from n on one by one
+pub take-joined : (n m : ℕ) (u w : List ℕ) → n ≤ m → m ≤ length u → m ≤ length w → take n u ≡ take n w → ((i : ℕ) → n ≤ i → i < m → getD u i 0 ≡ getD w i 0) → take m u ≡ take m w
+unfolding column
+take-joined n m u w l a b front above = column-take u m a ∙ column-same m (λ i k. same i k (decLt i n)) ∙ sym (column-take w m b)
+  where
+    same : (i : ℕ) → i < m → Dec (i < n) → getD u i 0 ≡ getD w i 0
+    same i k (yes j) = sym (getD-take n u i 0 j) ∙ ap (λ (y : List ℕ). getD y i 0) front ∙ getD-take n w i 0 j
+    same i k (no j) = above i (omega arith) k
+
+    column-same : (k : ℕ) → ((i : ℕ) → i < k → getD u i 0 ≡ getD w i 0) → column (λ i. getD u i 0) k ≡ column (λ i. getD w i 0) k
+    column-same zero h = refl
+    column-same (suc k) h = rw (column-same k (λ i l. h i (omega arith)), h k (omega arith)) refl
 
 pub copy-done : (from w u : List ℕ) (i n : ℕ) → Filled (λ i. getD from i 0) i w u → i ≤ n → n ≤ i → n ≤ length from → take n u ≡ take n from
 copy-done from w u i n h a b l = filled-front (λ i. getD from i 0) w u i n h a b ∙ sym (column-take from n l)

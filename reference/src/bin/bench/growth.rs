@@ -90,12 +90,12 @@ fn starts(bytes: usize, variables: usize) -> [Input; 2] {
     each_turn(variables, || transaction([], body()))
 }
 
-/// In each turn a transaction that lists queries and holds so many updates and assignments of all
+/// In each turn a transaction that lists queries and holds so many updates and assignments of three
 /// variables, of which it runs a skip.
 fn starts_by_updates(count: usize, variables: usize) -> [Input; 2] {
     let written = |index: usize| match index % 2 {
         0 => update([mutation(Kind::AddMember, 0, 0); 5]),
-        _ => assign((index / 2 % variables) as u8, constant(1)),
+        _ => assign((index / 2 % 3) as u8, constant(1)),
     };
     let body = || if_else(variable(1), blocks(count, written), skip());
     each_turn(variables, || transaction(about_one_role(), body()))
