@@ -26,6 +26,7 @@ use Rattle.model.proofs.Reading.{stmt-within}
 use Rattle.model.proofs.Fits.{listed-member}
 use Rattle.model.proofs.Sets.{has-zero, in-none, has-or-l, has-or-r, or-has, has-with-same, with-has}
 use Rattle.model.proofs.Standing.{many-none, many-more, mutations-end, stmt-deep, stmt-there, stmt-known, skip-parts, assign-parts, block-parts, if-parts, while-parts, branch-parts, update-parts, transaction-parts}
+use Rattle.model.proofs.FlowParts.{Subset}
 use Rattle.program.specs.declared.codes.Atom.{Atom as CodeAtom}
 use Rattle.program.specs.declared.codes.Statement.{Statement}
 use Rattle.program.specs.declared.codes.Statement.the-variants.{Skip, Assign, Block, If, While, Query, Update, Transaction}
@@ -48,7 +49,7 @@ use Rattle.context.specs.declared.lists.QueryOf.the-variants as query
 use Rattle.context.specs.Lists.{ListedAt, QueryAt, KnownAt, QueryRolesAt, ListRolesAt, AllowedAt}
 use Rattle.context.specs.Context.{Around, Meets, Labels, Context, aroundOf, meetsOf, labelsOf, contextOf, withLabels, withNamed, joinOf, meetOf, ContextIs}
 use Rattle.context.specs.Judge.{SetBelow, sidesNumber, Asked, allAbove, bothAbove, liesIn, Met, MetBoth, Held, heldNumber, updateNumber, AssignNumber}
-use Rattle.flow.specs.Check.{checkedTo, numbered, numberedWord, Ready, Inside, Outside, AroundIs, MeetsAre, mayFlow, Free, Stands, StmtAt, Subset, Writes, StmtFits, CheckedAt, CodedAt, AssignAt, UpdateAt, PairAt, BranchesAt, Knowing, BothAt, LearntAt, BranchesOf, bodyStart, EnteredAt, Enters}
+use Rattle.flow.specs.Check.{checkedTo, numbered, numberedWord, Ready, Inside, Outside, AroundIs, MeetsAre, mayFlow, Free, Stands, StmtAt, Writes, StmtFits, CheckedAt, CodedAt, AssignAt, UpdateAt, PairAt, BranchesAt, Knowing, BothAt, LearntAt, BranchesOf, bodyStart, EnteredAt, Enters}
 use Rattle.context.proofs.ContextLaws.{context-expr, context-query, context-list}
 use Rattle.context.proofs.ListLaws.{query-not, query-is}
 use Rattle.context.proofs.JudgeLaws.{met-sides, held-none}

@@ -22,12 +22,13 @@ use Rattle.model.proofs.Fits.{listed-member}
 use Rattle.model.proofs.Order.{known-same, join-derivable, derivable-join}
 use Rattle.model.proofs.Sets.{has-or-l, has-or-r, has-with-same}
 use Rattle.model.proofs.Truth.{both, and-both}
+use Rattle.model.proofs.FlowParts.{Subset}
 use Rattle.gathered.specs.Labels.{allBelow}
 use Rattle.context.specs.declared.judge.Written.{Written}
 use Rattle.context.specs.declared.judge.Written.the-variants.{Variable, Role}
 use Rattle.context.specs.Context.{Meets, Labels, joinOf, meetOf}
 use Rattle.context.specs.Judge.{SetBelow, targetOf, Asked, allAbove, liesIn, Met, MetBoth}
-use Rattle.flow.specs.Check.{Subset, writesOf, mayFlow, Free}
+use Rattle.flow.specs.Check.{writesOf, mayFlow, Free}
 
 -- the labels of an expression are among those of all variables, and a listed query's among those of the list
 module _ (p : List ℕ) (side : Side) where

@@ -15,6 +15,7 @@ use Rattle.model.specs.Program.{got, variables, readMany, readQuery, readStmt}
 use Rattle.model.specs.Fits.{Each, QueryFits, Fits}
 use Rattle.model.specs.Order.{AtMost}
 use Rattle.model.specs.Flow.{Around as Surroundings, outside, inside, underExpr, updateJoin, assigned, mutated, flow}
+use Rattle.model.proofs.FlowParts.{Subset}
 use Rattle.order.specs.Table.{tableWords, Knows, listRoles, Learnt}
 use Rattle.program.specs.declared.codes.Statement.{Statement}
 use Rattle.program.specs.Answer.{Reached, reached, stopped, placeLimit, refusal, told}
@@ -103,10 +104,6 @@ pub record Stands (s p t : List ℕ) (c : Context) (around : Surroundings) (know
 -- the statement that was read at a position
 abbrev pub StmtAt : List ℕ → List ℕ → ℕ → ℕ → Stmt → ℕ → Type 0
 StmtAt s p depth at x end = readStmt p (principals s) (roles s) (variables p) depth at ≡ got x end
-
--- every number in a is in b
-abbrev pub Subset : ℕ → ℕ → Type 0
-Subset a b = (i : ℕ) → has a i ≡ true → has b i ≡ true
 
 -- what stands in a transaction assigns and mutates only what the transaction does
 unfoldable pub Writes : Surroundings → Stmt → Type 0

@@ -58,7 +58,7 @@ fn read_verdict(policy: &[u8], program: &[u8]) -> Verdict
     requires { ⌜ Accepted (now policy) ⌝ }
     ensures { λ r. ⌜ verdictOf r ≡ bodyVerdict (now (policy .entry)) (now (program .entry)) (readProgram (now (program .entry)) (principals (now (policy .entry))) (roles (now (policy .entry)))) ⌝ }
 {
-    let read = program::file::read_program(
+    let read = parser::file::read_program(
         program,
         rows::principals_of(policy),
         rows::roles_of(policy),

@@ -11,7 +11,6 @@ use lib.Bits.{bitOr}
 use lib.ListN.{length, getD, set, replicate, length-set, length-replicate, getD-replicate, List·getD-eq-default}
 use lib.Seq.{getD-set-same, getD-set-other}
 use native.Mathlib.Decide.{decLt}
-use Rattle.model.specs.Limits.{principalLimit}
 use Rattle.model.specs.Number.{firstBelow}
 use Rattle.model.specs.Sets.{has, with}
 use Rattle.model.specs.Policy.{principals, owner, name, AcceptedHead, principalNumber, pairNumber}
@@ -68,17 +67,24 @@ module _ (t : List ℕ) (c : ℕ) where
         go e g = rw (e, getD-set-same t (c / 64) (with (getD t (c / 64) 0) (c % 64)) 0 room) at g
 
 -- before the first row nothing is marked
-pub seen-none : (s : List ℕ) → Seen s (replicate 128 0) 0
+pub seen-none : (s : List ℕ) (n : ℕ) → 256 * principals s ≤ 64 * n → Seen s (replicate n 0) 0
 unfolding marked
-seen-none s = record {
-  room = refl;
+seen-none s n room = record {
+  room = rw (length-replicate {A = ℕ} n 0) room;
   marks = λ j l. absurd (omega arith);
-  marks-of = λ c h. absurd (true≢false (sym h ∙ blank c (decLt (c / 64) 128)));
+  marks-of = λ c h. absurd (true≢false (sym h ∙ blank c (decLt (c / 64) n)));
 }
   where
-    blank : (c : ℕ) → Dec (c / 64 < 128) → has (getD (replicate 128 0) (c / 64) 0) (c % 64) ≡ false
-    blank c (yes l) = rw (getD-replicate {A = ℕ} 128 (c / 64) 0 0 l) (has-zero (c % 64))
-    blank c (no k) = rw (List·getD-eq-default {A = ℕ} (replicate 128 0) 0 (let l : length {A = ℕ} (replicate 128 0) ≤ c / 64 = omega (arith, length-replicate {A = ℕ} 128 0) in l)) (has-zero (c % 64))
+    blank : (c : ℕ) → Dec (c / 64 < n) → has (getD (replicate n 0) (c / 64) 0) (c % 64) ≡ false
+    blank c (yes l) = rw (getD-replicate {A = ℕ} n (c / 64) 0 0 l) (has-zero (c % 64))
+    blank c (no k) = rw (List·getD-eq-default {A = ℕ} (replicate n 0) 0 (let l : length {A = ℕ} (replicate n 0) ≤ c / 64 = omega (arith, length-replicate {A = ℕ} n 0) in l)) (has-zero (c % 64))
+
+-- in few words where there are few principals, in more for all that there may be
+pub seen-few : (s : List ℕ) (k : ℕ) → k ≡ principals s → k ≤ 4 → Seen s (replicate 16 0) 0
+seen-few s k e l = seen-none s 16 (omega arith)
+
+pub seen-all : (s : List ℕ) → AcceptedHead s → Seen s (replicate 128 0) 0
+seen-all s h = let l = principals-few s h in seen-none s 128 (omega arith)
 
 -- rows i and j with the same owner and name, or not
 pair-same : (s : List ℕ) (i j : ℕ) → owner s i ≡ owner s j → name s i ≡ name s j → pairNumber s i j ≡ 5
@@ -89,8 +95,8 @@ pair-or : (s : List ℕ) (i j : ℕ) → (pairNumber s i j ≡ 0) ⊎ (pairNumbe
 unfolding pairNumber
 pair-or s i j = unless-or (not (eqb (owner s i) (owner s j) && eqb (name s i) (name s j))) 5
 
--- row i with an owner that there may be, and its pair c
-module _ (s t : List ℕ) (i c : ℕ) (seen : Seen s t i) (below : owner s i < principalLimit) (e : c ≡ pair s i) (small : name s i < 256) where
+-- row i with an owner that there is, and its pair c
+module _ (s t : List ℕ) (i c : ℕ) (seen : Seen s t i) (below : owner s i < principals s) (e : c ≡ pair s i) (small : name s i < 256) where
   pub pair-room : c < 64 * length t
   pair-room = omega (arith, seen .room)
 
@@ -131,9 +137,9 @@ module _ (s t : List ℕ) (i k : ℕ) where
   unfolding SeenAfter
   seen-after h z = h z
 
--- an owner that there is, is one that there may be
-pub owner-fits : (s : List ℕ) (i k : ℕ) → AcceptedHead s → k ≡ principalNumber s i → k ≡ 0 → owner s i < principalLimit
+-- a row whose principals there are has an owner that there is
+pub owner-fits : (s : List ℕ) (i k : ℕ) → k ≡ principalNumber s i → k ≡ 0 → owner s i < principals s
 unfolding principalNumber
-owner-fits s i k h e z = omega (arith, principals-few s h, ltb-true (owner s i) (principals s) (unless-zero (ltb (owner s i) (principals s)) _ _ (sym e ∙ z) .0))
+owner-fits s i k e z = ltb-true (owner s i) (principals s) (unless-zero (ltb (owner s i) (principals s)) _ _ (sym e ∙ z) .0)
 
 pub ruleset seen-laws = (seen-refused, seen-marked, seen-after, owner-fits)

@@ -112,6 +112,10 @@ fn rows_number(policy: &[u8], n: usize) -> u32
     requires { ⌜ (AcceptedHead (now policy)) × (n ≡ roles (now policy)) ⌝ }
     ensures { λ r. ⌜ r ≡ firstBelow (rowNumber (now (policy .entry))) n ⌝ }
 {
+    if rows::principals_of(policy) <= pairs::FEW {
+        let mut few = [0u64; pairs::FEW_WORDS];
+        return each_row_number(policy, n, &mut few);
+    }
     let mut seen = [0u64; pairs::WORDS];
     each_row_number(policy, n, &mut seen)
 }

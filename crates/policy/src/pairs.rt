@@ -2,9 +2,8 @@
 ghost use mathlib.Core.Path.{_≡_};
 ghost use Prim.Native.Nat.{_+_, _*_, _<_};
 ghost use lib.ListN.{length};
-ghost use Rattle.model.specs.Limits.{principalLimit};
 ghost use Rattle.model.specs.Number.{firstBelow};
-ghost use Rattle.model.specs.Policy.{HasRow, owner, name, pairNumber};
+ghost use Rattle.model.specs.Policy.{HasRow, principals, owner, name, pairNumber};
 ghost use Rattle.policy.specs.Pairs.{pair, marked, mark, Seen};
 use super::rows;
 use shared::bytes;
@@ -13,6 +12,11 @@ use shared::sets;
 
 // 64 bits a word, for 32 owners of 256 names each.
 pub const WORDS: usize = 128;
+
+// The same for a few owners, so that a small policy has less to clear.
+pub const FEW: u8 = 4;
+
+pub const FEW_WORDS: usize = 16;
 
 // Owner and name of row i as one number.
 fn pair_of(policy: &[u8], i: usize) -> usize
@@ -43,7 +47,7 @@ fn set_mark(words: &mut [u64], c: usize)
 
 // 5: no earlier row has the owner and name of row i, which are marked now.
 pub fn pairs_number(policy: &[u8], i: usize, seen: &mut [u64]) -> u32
-    requires { ⌜ (HasRow (now policy) i) × (owner (now policy) i < principalLimit) × Seen (now policy) (now seen) i ⌝ }
+    requires { ⌜ (HasRow (now policy) i) × (owner (now policy) i < principals (now policy)) × Seen (now policy) (now seen) i ⌝ }
     ensures number { λ r. ⌜ r ≡ firstBelow (pairNumber (now (policy .entry)) i) i ⌝ }
     ensures now_seen { λ r. ⌜ Seen (now (policy .entry)) (now (seen .exit)) (i + 1) ⌝ }
 {

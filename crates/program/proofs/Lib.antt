@@ -1,8 +1,5 @@
 pub mod CodeLaws
 pub mod AnswerLaws
-mod AtomLaws
+pub mod AtomLaws
 mod EntryLaws
-mod ExpressionLaws
-mod StatementLaws
-mod FileLaws
 mod LayoutLaws

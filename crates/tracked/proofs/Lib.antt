@@ -3,4 +3,3 @@ pub mod IndexLaws
 pub mod KeepLaws
 mod SiftLaws
 pub mod TrackedLaws
-pub mod SettleLaws

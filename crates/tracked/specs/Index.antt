@@ -13,7 +13,7 @@ use Rattle.model.specs.Policy.{roles, members, takes, Accepted}
 use Rattle.model.specs.Meaning.{meaning}
 use Rattle.model.specs.Mutation.{Kind, addMember, deleteMember, addTaken, deleteTaken, mutate}
 use Rattle.shared.specs.Words.{single}
-use Rattle.tracked.specs.Live.{Live, FixedLive}
+use Rattle.tracked.specs.Live.{FixedLive}
 
 -- a word for each role and for each principal, one for the principals whose words were touched, one for the roles that are known,
 -- one more for each role, one for the roles whose words were touched, and each of the first words as it was; where they begin
@@ -218,25 +218,3 @@ pub record Tracked (s atoms w : List ℕ) : Type 0 where
   pub small : (r : ℕ) → r < roles s → Few (getD atoms r 0)
   pub column : (p : ℕ) → p < principalLimit → Column (roles s) (before w) (before w (holdersAt + p)) (places atoms p)
   pub known : Known (before w) w (getD w knownAt 0)
-
--- an accepted policy with its words the other way round, of which none was touched, what is known of roles, and the sets of its
--- atoms but for the places of some principals
-pub record Settling (s atoms w : List ℕ) (some : ℕ) : Type 0 where
-  pub fixed-live : FixedLive s atoms
-  pub indexed : Indexed s (roles s) w
-  pub untouched : Untouched w
-  pub few : Few some
-  pub fresh : Fresh s atoms some
-  pub known : Known (current w) w (getD w knownAt 0)
-
--- what is tracked, and the sets are right
-pub record Settled (s atoms w : List ℕ) : Type 0 where
-  pub tracked : Tracked s atoms w
-  pub live : Live s atoms
-
--- u is w with the principal p in the first n words where these are among some roles, and in no other of them; behind the words
--- of roles nothing changes
-pub record Spread (n among p : ℕ) (w u : List ℕ) : Type 0 where
-  pub long : length u ≡ length w
-  pub inside : (r : ℕ) → r < n → getD u r 0 ≡ placed (has among r) (getD w r 0) p
-  pub outside : (r : ℕ) → roleLimit ≤ r → getD u r 0 ≡ getD w r 0

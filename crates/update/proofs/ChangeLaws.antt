@@ -16,12 +16,13 @@ use Rattle.model.specs.Run.{broken}
 use Rattle.model.proofs.Reading.{query-fits}
 use Rattle.model.proofs.Standing.{many-none, many-more, query-parts, queries-end}
 use Rattle.tracked.specs.Live.{atomWords, Live}
-use Rattle.tracked.specs.Index.{movedAt, rewiredAt, Mirrored, Sifted, Tracked, Settled}
+use Rattle.tracked.specs.Index.{movedAt, rewiredAt, Mirrored, Sifted, Tracked}
+use Rattle.settling.specs.Settle.{Settled}
 use Rattle.update.specs.Mutations.{Mutable, Mutated}
 use Rattle.update.specs.Listed.{Listing, HeldAt}
 use Rattle.update.specs.Change.{Prepared, Judged, CarriedOut}
 use Rattle.tracked.proofs.AtomLaws.{live-holds}
-use Rattle.tracked.proofs.SettleLaws.{tracked-long, tracked-atoms, tracked-few, settling-start, settling-atoms, settling-done, settled-already}
+use Rattle.settling.proofs.SettleLaws.{tracked-long, tracked-atoms, tracked-few, settling-start, settling-atoms, settling-done, settled-already}
 use Rattle.tracked.proofs.TrackedLaws.{tracked-after}
 use Rattle.update.proofs.MutationLaws.{granted-stays}
 use Rattle.update.proofs.ListedLaws.{broken-bits}

@@ -11,7 +11,8 @@ use Rattle.model.specs.Syntax.{Query}
 use Rattle.model.specs.Program.{got, readMany, readQuery, readMutation}
 use Rattle.model.specs.Run.{mutateAll, broken}
 use Rattle.tracked.specs.Live.{Live}
-use Rattle.tracked.specs.Index.{Tracked, Settled}
+use Rattle.tracked.specs.Index.{Tracked}
+use Rattle.settling.specs.Settle.{Settled}
 
 -- what is tracked of a policy, and the sets are right where something is listed
 pub record Prepared (count : ℕ) (s atoms w : List ℕ) : Type 0 where

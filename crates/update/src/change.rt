@@ -5,16 +5,17 @@ ghost use lib.ListN.{length, replicate};
 ghost use Rattle.model.specs.Limits.{listLimit};
 ghost use Rattle.model.specs.Policy.{Accepted};
 ghost use Rattle.tracked.specs.Live.{atomWords};
-ghost use Rattle.tracked.specs.Index.{indexWords, Tracked, Settling};
+ghost use Rattle.tracked.specs.Index.{indexWords, Tracked};
+ghost use Rattle.settling.specs.Settle.{Settling};
 ghost use Rattle.update.specs.Mutations.{Mutable};
 ghost use Rattle.update.specs.Listed.{Listing};
 ghost use Rattle.update.specs.Change.{Prepared, Judged, CarriedOut};
 use super::listed;
 use super::mutations;
+use settling::settle;
 use shared::sets;
 use tracked::atoms;
 use tracked::index;
-use tracked::settle;
 
 // What is tracked of a policy when a run begins, in words of which those of the index are 0.
 pub fn track(policy: &[u8], atoms: &mut [u32], index: &mut [u64])

@@ -4,6 +4,7 @@ use Rattle.model.specs.Number.{firstBelow}
 use Rattle.policy.specs.Pairs.{Seen}
 use Prim.Native.Nat.{_≤_, _-_}
 use mathlib.Core.Path.{_≡_}
+use lib.ListN.{length}
 use Rattle.policy.proofs.CheckLaws.{loops}
 use Rattle.policy.proofs.PairLaws.{seen-laws}
 use borrow.Author.Needs.{needs}
@@ -11,7 +12,7 @@ use Rattle.policy.proofs.check.each_row_number.Statement.{statement}
 use Rattle.policy.proofs.check.each_row_number.Tie as tie
 
 abbrev Inv-loop : tie.InvT-loop
-Inv-loop s n seen₀ i₀ seen i = (i ≤ n) × (firstBelow (rowNumber s) i ≡ 0) × Seen s seen i
+Inv-loop s n seen₀ i₀ seen i = (i ≤ n) × (firstBelow (rowNumber s) i ≡ 0) × Seen s seen i × (length seen ≡ length seen₀)
 
 abbrev μ-loop : tie.MeasureT-loop
 μ-loop s n seen₀ i₀ seen i = n - i

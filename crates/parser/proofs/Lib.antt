@@ -1,0 +1,3 @@
+mod ExpressionLaws
+mod StatementLaws
+mod FileLaws

@@ -1,8 +1,0 @@
-use Rattle.program.proofs.FileLaws.{bodies}
-use borrow.Author.Needs.{needs}
-use Rattle.program.proofs.file.read_body.Statement.{statement}
-use Rattle.program.proofs.file.read_body.Tie as tie
-
-pub read-body-spec : {M : Type 1} → statement M
-read-body-spec =
-    tie.close (tie.spec (λ c κs. search needs) (λ c. search (needs, bodies)) (λ c κs. search needs) (λ c. search (needs, bodies)) (λ c. search (needs, bodies)))

@@ -1,9 +1,0 @@
-use Rattle.program.proofs.FileLaws.{marks}
-use borrow.Author.Needs.{needs}
-use Rattle.program.proofs.file.read_head.Statement.{statement}
-use Rattle.program.proofs.file.read_head.Tie as tie
-
-pub read-head-spec : {M : Type 1} → statement M
-read-head-spec =
-    tie.close
-    (tie.spec (λ c κs. search needs) (λ c. search (needs, marks)) (λ c κs. search needs) (λ c. search (needs, marks)) (λ c κs. search needs) (λ c. search (needs, marks)))

@@ -1,8 +1,0 @@
-use Rattle.tracked.proofs.SettleLaws.{settlings}
-use borrow.Author.Needs.{needs}
-use Rattle.tracked.proofs.settle.settle_all.Statement.{statement}
-use Rattle.tracked.proofs.settle.settle_all.Tie as tie
-
-pub settle-all-spec : {M : Type 1} → statement M
-settle-all-spec =
-    tie.close (tie.spec (λ c κs. search (needs, settlings)) (λ c κs. search (needs, settlings)) (λ c. search (needs, settlings)) (λ c. search (needs, settlings)) (λ c. search (needs, settlings)))
