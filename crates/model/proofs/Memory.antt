@@ -95,9 +95,6 @@ memory-words m n e low =
 
 -- the values that stand first in a longer list, as where a program has fewer variables than there is room for
 module _ (w : List ℕ) (n : ℕ) (fits : n ≤ length w) where
-  pub memory-first-length : length (memoryOf (take n w)) ≡ 4 * n
-  memory-first-length = rw (memory-length (take n w), length-take-le n w fits)
-
   pub memory-first-value : (x : ℕ) → x < n → valueAt (memoryOf (take n w)) x ≡ getD w x 0
   memory-first-value x l = memory-value (take n w) x (rw (length-take-le n w fits) l) ∙ getD-take n w x 0 l
 

@@ -5,7 +5,6 @@ use mathlib.Core.List.{List, _∷_}
 use mathlib.Core.Bool.{Bool, true, false, cond}
 use native.Mathlib.Omega.{arith}
 use native.Mathlib.Numerals.{sub-one}
-use native.Mathlib.Decide.{decLt}
 use lib.ListN.{length}
 use borrow.Author.Tests.{lt-ltb, le-ltb}
 use Rattle.model.specs.Bytes.{byte}
@@ -23,34 +22,14 @@ module _ (w : ℕ) where
   unfolding told
   refusal-told h = simp (le-ltb _ _ h)
 
--- a refusal with a number is no position, and keeps its number and its place
+-- a refusal with a number keeps its number and its place
 module _ (k place : ℕ) (some : 0 < k) where
-  pub refusal-large : placeLimit ≤ refusal k place
-  unfolding refusal
-  refusal-large = omega arith
-
   pub refusal-kept : place < placeLimit → told (refusal k place) ≡ stopped k place
   unfolding refusal
   refusal-kept h =
       let number : (k * placeLimit + place % placeLimit) / placeLimit ≡ k = omega arith in
       let rest : (k * placeLimit + place % placeLimit) % placeLimit ≡ place = omega arith in
       refusal-told (k * placeLimit + place % placeLimit) (omega arith) ∙ rw (number, rest)
-
--- a word that tells a position is it, and one that tells a refusal holds its number and its place
-module _ (w : ℕ) where
-  pub position-of : (p : ℕ) → told w ≡ reached p → (w < placeLimit) × (w ≡ p)
-  position-of p e = go (decLt w placeLimit)
-    where
-      go : Dec (w < placeLimit) → (w < placeLimit) × (w ≡ p)
-      go (yes h) = (h, cc (position-told w h))
-      go (no n) = let h : placeLimit ≤ w = omega arith in let z : _≡_ {A = ℕ} 0 1 = cc (refusal-told w h) in absurd (omega arith)
-
-  pub refusal-of : (k place : ℕ) → told w ≡ stopped k place → (placeLimit ≤ w) × (w / placeLimit ≡ k) × (w % placeLimit ≡ place)
-  refusal-of k place e = go (decLt w placeLimit)
-    where
-      go : Dec (w < placeLimit) → (placeLimit ≤ w) × (w / placeLimit ≡ k) × (w % placeLimit ≡ place)
-      go (yes h) = let z : _≡_ {A = ℕ} 0 1 = cc (position-told w h) in absurd (omega arith)
-      go (no n) = let h : placeLimit ≤ w = omega arith in (h, cc (refusal-told w h), cc (refusal-told w h))
 
 -- a law for each return of answer_of
 module _ (w : ℕ) where
