@@ -1,5 +1,6 @@
 mod SizeLaws
 mod ExpressionLaws
+mod BoundLaws
 mod MadeLaws
 mod EmitLaws
 mod BlockLaws

@@ -70,28 +70,6 @@ column-take w (suc n) l = take-suc w n (omega arith) ∙ ap (λ (y : List ℕ). 
     take-suc (x ∷ w) zero l = refl
     take-suc (x ∷ w) (suc n) l = ap (λ (y : List ℕ). x ∷ y) (take-suc w n (omega arith))
 
--- the same words at the same places, below n by what is taken and from n on one by one
-take-joined : (n m : ℕ) (u w : List ℕ) → n ≤ m → m ≤ length u → m ≤ length w → take n u ≡ take n w → ((i : ℕ) → n ≤ i → i < m → getD u i 0 ≡ getD w i 0) → take m u ≡ take m w
-unfolding column
-take-joined n m u w l a b front above = column-take u m a ∙ column-same m (λ i k. same i k (decLt i n)) ∙ sym (column-take w m b)
-  where
-    same : (i : ℕ) → i < m → Dec (i < n) → getD u i 0 ≡ getD w i 0
-    same i k (yes j) = sym (getD-take n u i 0 j) ∙ ap (λ (y : List ℕ). getD y i 0) front ∙ getD-take n w i 0 j
-    same i k (no j) = above i (omega arith) k
-
-    column-same : (k : ℕ) → ((i : ℕ) → i < k → getD u i 0 ≡ getD w i 0) → column (λ i. getD u i 0) k ≡ column (λ i. getD w i 0) k
-    column-same zero h = refl
-    column-same (suc k) h = rw (column-same k (λ i l. h i (omega arith)), h k (omega arith)) refl
-
--- A copy of the first n words where the others were the same already: then all of the first m are.
-module _ (n m : ℕ) (from to to₁ : List ℕ) (few : n ≤ m) (long : m ≤ length from) (room : m ≤ length to) (front : take n to₁ ≡ take n from) (kept : Kept n to to₁)
-    (same : (i : ℕ) → n ≤ i → i < m → getD to i 0 ≡ getD from i 0) where
-  pub copied-above : (i : ℕ) → n ≤ i → i < m → getD to₁ i 0 ≡ getD from i 0
-  copied-above i a b = kept .same i a ∙ same i a b
-
-  pub copied-all : take m to₁ ≡ take m from
-  copied-all = let z = kept .same-length in take-joined n m to₁ from few (omega arith) long front copied-above
-
 pub copy-done : (from w u : List ℕ) (i n : ℕ) → Filled (λ i. getD from i 0) i w u → i ≤ n → n ≤ i → n ≤ length from → take n u ≡ take n from
 copy-done from w u i n h a b l = filled-front (λ i. getD from i 0) w u i n h a b ∙ sym (column-take from n l)
 

@@ -1,3 +1,2 @@
-pub mod Bound
 pub mod Memory
 pub mod Steps

@@ -1,14 +1,15 @@
 -- A memory by its values: four bytes at the front move every later value by one place, so each law goes by the values from the first on.
 use Prim.Native.Nat.{ℕ, zero, suc, _+_, _*_, _/_, _%_, _^_, _<_, _≤_}
 use native.Mathlib.Omega.{arith}
-use mathlib.Core.Path.{_≡_, refl, _∙_}
-use mathlib.Core.List.{List, [], _∷_}
+use mathlib.Core.Path.{_≡_, refl, sym, _∙_, ap}
+use mathlib.Core.List.{List, [], _∷_, head-eq-of-cons-eq, tail-eq-of-cons-eq}
 use lib.ListN.{length, getD, set, take}
-use lib.Seq.{length-take-le, take-set-lt, getD-take}
+use lib.Seq.{length-take-le, take-set-lt, getD-take, ext-getD}
 use Rattle.model.specs.Bytes.{byte, word, put}
 use Rattle.model.specs.Meaning.{column}
 use Rattle.model.specs.Value.{valueAt, setValue}
 use Rattle.model.specs.Memory.{memoryOf}
+use Rattle.model.specs.Machine.{restored}
 use Rattle.model.proofs.Bytes.{length-put}
 use Rattle.model.proofs.Least.{column-length, column-at}
 
@@ -100,6 +101,65 @@ module _ (w : List ℕ) (n : ℕ) (fits : n ≤ length w) where
 
   pub memory-first-set : (x v : ℕ) → x < n → v < 2 ^ 32 → setValue (memoryOf (take n w)) x v ≡ memoryOf (take n (set w x v))
   memory-first-set x v l h = rw (take-set-lt n w x v l) (memory-set (take n w) x v (rw (length-take-le n w fits) l) h)
+
+-- the bytes of the first values are the first bytes
+pub memory-first-part : (w : List ℕ) (n b : ℕ) → b ≤ n → n ≤ length w → take (4 * b) (memoryOf (take n w)) ≡ memoryOf (take b w)
+unfolding memoryOf
+memory-first-part w n zero l h = refl
+memory-first-part w zero (suc b) l h = absurd (omega arith)
+memory-first-part [] (suc n) (suc b) l h = absurd (omega arith)
+memory-first-part (v ∷ w) (suc n) (suc b) l h =
+    let e : 4 * suc b ≡ suc (suc (suc (suc (4 * b)))) = omega arith in rw (e, memory-first-part w n b (omega arith) (omega arith))
+
+-- a memory with kept bytes laid over its first is as long as it was
+restored-length : (kept m : List ℕ) → length (restored kept m) ≡ length m
+unfolding restored
+restored-length [] m = refl
+restored-length (b ∷ kept) [] = refl
+restored-length (b ∷ kept) (a ∷ m) = rw (restored-length kept m)
+
+-- a memory with its own first bytes laid over it is itself
+pub restored-own : (n : ℕ) (m : List ℕ) → restored (take n m) m ≡ m
+unfolding restored
+restored-own zero m = refl
+restored-own (suc n) [] = refl
+restored-own (suc n) (a ∷ m) = rw (restored-own n m)
+
+-- a byte that is set among the first n is gone where the first n of a memory as long are laid over it
+restored-set : (n : ℕ) (whole m : List ℕ) (i v : ℕ) → length m ≡ length whole → i < n → restored (take n whole) (set m i v) ≡ restored (take n whole) m
+unfolding restored
+restored-set zero whole m i v e l = absurd (omega arith)
+restored-set (suc n) [] [] i v e l = refl
+restored-set (suc n) [] (a ∷ m) i v e l = absurd (omega arith)
+restored-set (suc n) (b ∷ whole) [] i v e l = refl
+restored-set (suc n) (b ∷ whole) (a ∷ m) zero v e l = refl
+restored-set (suc n) (b ∷ whole) (a ∷ m) (suc i) v e l = rw (restored-set n whole m i v (omega arith) (omega arith))
+
+-- and so are bytes that are put there
+restored-put : (n : ℕ) (whole m : List ℕ) (at k v : ℕ) → length m ≡ length whole → at + k ≤ n → restored (take n whole) (put m at k v) ≡ restored (take n whole) m
+unfolding put
+restored-put n whole m at zero v e l = refl
+restored-put n whole m at (suc k) v e l =
+    restored-set n whole (put m at k v) (at + k) _ (length-put m at k v ∙ e) (omega arith) ∙ restored-put n whole m at k v e (omega arith)
+
+-- so a variable below the bound may be set: what is restored stays the same
+pub restored-value : (b : ℕ) (whole m : List ℕ) (x v : ℕ) → x < b → restored (take (4 * b) whole) m ≡ whole → restored (take (4 * b) whole) (setValue m x v) ≡ whole
+unfolding setValue
+restored-value b whole m x v l e =
+    let k : length m ≡ length whole = sym (restored-length (take (4 * b) whole) m) ∙ ap length e in
+    restored-put (4 * b) whole m (4 * x) 4 v k (omega arith) ∙ e
+
+-- the bytes of b kept values laid over a memory are those of the values of which the first b are the kept ones
+pub memory-restored : (w kept w₁ : List ℕ) (n b : ℕ) → b ≤ n → n ≤ length w → b ≤ length kept → length w₁ ≡ length w → take b w₁ ≡ take b kept
+    → ((i : ℕ) → b ≤ i → getD w₁ i 0 ≡ getD w i 0) → restored (memoryOf (take b kept)) (memoryOf (take n w)) ≡ memoryOf (take n w₁)
+unfolding restored memoryOf
+memory-restored w kept w₁ n zero l h k e first rest = let same : w ≡ w₁ = sym (ext-getD 0 w₁ w e (λ i j. rest i (omega arith))) in rw same
+memory-restored w kept w₁ zero (suc b) l h k e first rest = absurd (omega arith)
+memory-restored [] kept w₁ (suc n) (suc b) l h k e first rest = absurd (omega arith)
+memory-restored (v ∷ w) [] w₁ (suc n) (suc b) l h k e first rest = absurd (omega arith)
+memory-restored (v ∷ w) (u ∷ kept) [] (suc n) (suc b) l h k e first rest = absurd (omega arith)
+memory-restored (v ∷ w) (u ∷ kept) (u₁ ∷ w₁) (suc n) (suc b) l h k e first rest =
+    rw (head-eq-of-cons-eq first, memory-restored w kept w₁ n b (omega arith) (omega arith) (omega arith) (omega arith) (tail-eq-of-cons-eq first) (λ i j. rest (suc i) (omega arith)))
 
 -- bytes after n values of w have been stored in them, from the first on
 unfoldable pub stored : List ℕ → List ℕ → ℕ → List ℕ
