@@ -1,14 +1,13 @@
 -- A law for each return and each turn of memory.rt: what was written has its values, what comes behind is as it was.
 use Prim.Native.Nat.{ℕ, zero, suc, _+_, _*_, _<_, _≤_}
 use native.Mathlib.Omega.{arith}
-use native.Mathlib.Decide.{decLt}
 use native.Mathlib.Numerals.{add-one}
 use mathlib.Core.Path.{_≡_, refl, sym, ap, _∙_}
 use mathlib.Core.List.{List, [], _∷_, _++_}
 use mir.Val.{Fits}
 use mir.Syntax.{w8, w32}
 use lib.ListN.{length, getD, set, take, length-set}
-use lib.Seq.{getD-set-other, getD-take, take-suc-set}
+use lib.Seq.{getD-set-other, take-suc-set}
 use Rattle.model.specs.Meaning.{column}
 use Rattle.model.specs.Value.{valueAt}
 use Rattle.model.specs.Bytes.{word}

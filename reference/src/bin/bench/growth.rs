@@ -37,6 +37,7 @@ pub fn rows(table: &mut Table) {
     row(table, "query, 64 roles, dense, against 1", [asked(dense()), asked(one())]);
     row(table, "start, 3,900 bytes not run against 4", [MUCH, LITTLE].map(|size| starts(size, 3)));
     row(table, "start, 64 variables against 3", [64, 3].map(|variables| starts(LITTLE, variables)));
+    row(table, "start, 64 variables set elsewhere against 3", [64, 3].map(starts_beside));
     row(
         table,
         "start, updates not run against none",
@@ -88,6 +89,15 @@ fn branches(bytes: usize) -> [Input; 2] {
 fn starts(bytes: usize, variables: usize) -> [Input; 2] {
     let body = || if_else(variable(1), filling(bytes), skip());
     each_turn(variables, || transaction([], body()))
+}
+
+/// In each turn a transaction that sets a variable, in a program that holds 64 assignments of so many
+/// variables elsewhere, which are not run.
+fn starts_beside(variables: usize) -> [Input; 2] {
+    let set = |index: usize| assign((index % variables) as u8, constant(1));
+    let elsewhere = || if_else(variable(1), blocks(64, set), skip());
+    let each = |count| turns(count, [transaction(about_one_role(), assign(2, constant(1)))]);
+    TURNS.map(|count| input(&minimal(), &[0; 64], block([elsewhere(), each(count)])))
 }
 
 /// In each turn a transaction that lists queries and holds 65 assignments of three variables and as many

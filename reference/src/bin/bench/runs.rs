@@ -6,32 +6,24 @@ use std::ptr::{read_volatile, write_volatile};
 use reference::generate::{chain_onward, dense};
 use reference::policy::Policy;
 use reference::program::{Atom, Expression, Kind, Operator, Query, Statement};
+use reference::proved_program;
 use reference::shapes::*;
 
 use crate::calls::Input;
 use crate::making::*;
-use crate::measure::{Reading, Times};
+use crate::measure::{Reading, Timed, Times};
 use crate::table::{Table, NATIVE_BAR, RUN_BAR, SMALLEST_RUN_BAR};
 
 pub fn rows(table: &mut Table) {
     table.head("runs");
-    let native = native(table);
     for (name, input, units) in runs() {
         let name = format!("run: {name}");
         if !table.wants(&name) {
             continue;
         }
-        let library = table.run(&name, &input, (0, units), RUN_BAR);
+        table.run(&name, &input, (0, units), RUN_BAR);
         if name.contains("arithmetic") {
-            if let Some(native) = native {
-                let what = format!("{library:.2} and {native:.2} ns a unit");
-                table.against(
-                    &format!("{name}, against native"),
-                    &what,
-                    library / native,
-                    NATIVE_BAR,
-                );
-            }
+            against_native(table, &format!("{name}, against native"), &input, units);
         }
     }
     let name = "run: smallest, as a whole call";
@@ -43,16 +35,16 @@ pub fn rows(table: &mut Table) {
 /// The units of the native loop: each turn is a test and an assignment.
 const NATIVE_UNITS: u32 = 1_000_000;
 
-/// For scale: the machine's own loop of an addition and a comparison in memory; gives its time of a
-/// unit.
-fn native(table: &Table) -> Option<f64> {
-    if !table.wants("run: arithmetic") && !table.wants("run: native loop") {
-        return None;
-    }
-    let times = Times::of(&mut [&mut Reading(|| native_loop(Box::new([0, NATIVE_UNITS / 2])))]);
-    let unit = times.median(|round| round[0]) / f64::from(NATIVE_UNITS);
-    println!("{:58} {unit:9.2} ns a unit", "run: native loop, for scale");
-    Some(unit)
+/// For scale: a unit of the library beside one of the machine's own loop of an addition and a comparison
+/// in memory, both in each round.
+fn against_native(table: &Table, name: &str, input: &Input, units: u32) {
+    let mut library = input.timed(proved_program::run);
+    let mut native = Reading(|| native_loop(Box::new([0, NATIVE_UNITS / 2])));
+    let times = Times::of(&mut [&mut library as &mut dyn Timed, &mut native]);
+    let by_unit = |round: &[f64]| [round[0] / f64::from(units), round[1] / f64::from(NATIVE_UNITS)];
+    let [first, second] = [0, 1].map(|which| times.median(|round| by_unit(round)[which]));
+    let ratio = times.median(|round| by_unit(round)[0] / by_unit(round)[1]);
+    table.against(name, &format!("{first:.2} and {second:.2} ns a unit"), ratio, NATIVE_BAR);
 }
 
 fn native_loop(mut memory: Box<[u32; 2]>) -> Box<[u32; 2]> {

@@ -58,14 +58,13 @@ impl Table {
         self.print(name, &times, CALL_BAR, None);
     }
 
-    /// A row of runs, which end with this number and units; gives the library's time of a unit.
-    pub fn run(&mut self, name: &str, input: &Input, end: (u32, u32), bar: f64) -> f64 {
+    /// A row of runs, which end with this number and units.
+    pub fn run(&mut self, name: &str, input: &Input, end: (u32, u32), bar: f64) {
         assert_eq!(input.agreed(name), end, "{name}");
         let [mut library, mut fast] = RUNS.map(|run| input.timed(run));
         let mut reference = input.timed_reference();
         let times = Times::of(&mut [&mut library, &mut fast, &mut reference as &mut dyn Timed]);
         self.print(name, &times, bar, Some(f64::from(end.1)));
-        times.median(|round| round[0]) / f64::from(end.1)
     }
 
     fn print(&mut self, name: &str, times: &Times, bar: f64, units: Option<f64>) {
