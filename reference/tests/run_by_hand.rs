@@ -79,6 +79,21 @@ fn memory_goes_back() {
     assert_eq!(run_on(&F, program, &[7, 8], 7), answer(22, 7, &F, &[7, 8]));
 }
 
+/// The same in a second transaction, after one that assigns a higher variable: a start keeps what its own
+/// body assigns.
+#[test]
+fn memory_goes_back_in_the_second() {
+    let query = Query(R0, R1);
+    let lost = update([mutation(Kind::DeleteTaken, 0, 1)]);
+    let body = ask(query, block([assign(0, constant(1)), lost]), skip());
+    let first = transaction([], assign(2, constant(3)));
+    let statement = block([first, assign(1, constant(2)), transaction([query], body)]);
+    let program = Program { labels: vec![OPEN; 3], statement };
+    // A start, an assignment; an assignment; then as above.
+    assert_eq!(run_on(&F, program.clone(), &[7, 8, 9], 10), answer(0, 10, &f_after(), &[7, 2, 3]));
+    assert_eq!(run_on(&F, program, &[7, 8, 9], 9), answer(22, 9, &F, &[7, 8, 9]));
+}
+
 /// An update is carried out where a rollback follows, and where the run is spent after it.
 #[test]
 fn updates_on_f() {
@@ -131,6 +146,41 @@ fn values() {
             let found = run_on(&E, program, &[left, right, 9], 1);
             let shown = format!("{operator:?} {left} {right}");
             assert_eq!(found, answer(0, 1, &E, &[left, right, expected]), "{shown}");
+        }
+    }
+}
+
+/// An operator of an operator and of a third value, on the left and on the right: where both are sums,
+/// differences or products on the left, an implementation may well work them out at once.
+#[test]
+fn two_operators() {
+    use Operator::{Difference, Less, Product, Quotient, Sum};
+    for (inner, outer, [a, b, c], on_the_left, on_the_right) in [
+        (Sum, Sum, [i32::MAX, 1, 1], -2147483647, -2147483647),
+        (Sum, Product, [2, 3, 4], 20, 20),
+        (Difference, Difference, [1, 2, 3], -4, 4),
+        (Difference, Product, [5, 7, 3], -6, -6),
+        (Product, Sum, [65536, 65536, 1], 1, 1),
+        (Product, Difference, [3, 4, 5], 7, -7),
+        (Product, Quotient, [7, 3, 2], 10, 0),
+        (Quotient, Product, [7, 2, 3], 9, 9),
+        (Less, Sum, [1, 2, 9], 10, 10),
+        (Sum, Less, [1, 2, 4], 1, 0),
+    ] {
+        for [one, other] in operands(a, b) {
+            let value = binary(inner, one, other);
+            for (third, expected) in [(0, on_the_left), (1, on_the_right)] {
+                for beside in [constant(c), variable(2)] {
+                    let whole = match third {
+                        0 => binary(outer, value.clone(), beside),
+                        _ => binary(outer, beside, value.clone()),
+                    };
+                    let program = Program { labels: vec![OPEN; 4], statement: assign(3, whole) };
+                    let found = run_on(&E, program, &[a, b, c, 9], 1);
+                    let shown = format!("{inner:?} {outer:?} {a} {b} {c} {third}");
+                    assert_eq!(found, answer(0, 1, &E, &[a, b, c, expected]), "{shown}");
+                }
+            }
         }
     }
 }
