@@ -1,6 +1,4 @@
 mod SizeLaws
-mod ExpressionLaws
-mod BoundLaws
 mod MadeLaws
 mod EmitLaws
 mod BlockLaws

@@ -1,8 +1,6 @@
 // A program's body as a run's code: its nodes in reading order, one for each statement that costs a unit, and the words of its
 // expressions. What each contract says is of the tree that stands at a position; where none stands, any code is right.
-mod bound;
 pub mod compile;
-pub mod expressions;
 pub mod simple;
 pub mod sizes;
 pub mod statements;

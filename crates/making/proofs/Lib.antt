@@ -1,0 +1,2 @@
+pub mod ExpressionLaws
+pub mod BoundLaws
