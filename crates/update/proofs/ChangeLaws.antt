@@ -3,9 +3,12 @@ use mathlib.Core.Path.{_≡_, refl, sym, _∙_}
 use Prim.Native.Nat.{ℕ, zero, suc, _+_, _-_, _*_, _<_, _≤_}
 use native.Mathlib.Omega.{arith}
 use mathlib.Core.List.{List}
-use mathlib.Core.Bool.{Bool, true, false, not, _&&_, _||_}
+use mathlib.Core.Bool.{Bool, true, false, not, _&&_, _||_, true≢false}
+use lib.Dec.{eqb}
 use lib.Bits.{bitOr}
 use lib.ListN.{length, getD}
+use native.Mathlib.Decide.{decLt}
+use borrow.Author.Tests.{eq-eqb, ne-eqb, eqb-true, not-true, not-false}
 use Rattle.model.specs.Limits.{listLimit}
 use Rattle.model.specs.Sets.{within}
 use Rattle.model.specs.Policy.{roles, SameFixed}
@@ -20,7 +23,7 @@ use Rattle.tracked.specs.Index.{movedAt, rewiredAt, Mirrored, Sifted, Tracked}
 use Rattle.settling.specs.Settle.{Settled}
 use Rattle.update.specs.Mutations.{Mutable, Mutated}
 use Rattle.update.specs.Listed.{Listing, HeldAt}
-use Rattle.update.specs.Change.{Prepared, Judged, CarriedOut}
+use Rattle.update.specs.Change.{isAwaited, Prepared, Judged, CarriedOut}
 use Rattle.tracked.proofs.AtomLaws.{live-holds}
 use Rattle.settling.proofs.SettleLaws.{tracked-long, tracked-atoms, tracked-few, settling-start, settling-atoms, settling-done, settled-already}
 use Rattle.tracked.proofs.TrackedLaws.{tracked-after}
@@ -44,35 +47,71 @@ module _ (s t w : List ℕ) (old : Live s w) (new : Live t w) (p : List ℕ) (sa
       never true = refl
       never false = refl
 
+-- what is tracked takes the same room all along
+module _ (s t w u i j : List ℕ) (h : Tracked s w i) (g : Tracked t u j) where
+  pub same-atoms : length u ≡ length w
+  same-atoms = tracked-atoms t u j g ∙ sym (tracked-atoms s w i h)
+
+  pub same-index : length j ≡ length i
+  same-index = tracked-long t u j g ∙ sym (tracked-long s w i h)
+
 -- what is tracked when the mutations have been made
 pub made-tracked : (p s t w i i₁ : List ℕ) (at count : ℕ) → Mutated p s at i t i₁ → Prepared count s w i → Tracked t w i₁
 made-tracked p s t w i i₁ at count made h = tracked-after s t w i i₁ (h .tracked) (made .mirrored) (made .kept) (made .same-fixed)
 
+-- what the code's tests say of whether the sets are awaited, and what follows where they are or are not
+module _ (count : ℕ) (i : List ℕ) where
+  abbrev touched : ℕ
+  touched = bitOr (getD i movedAt 0) (getD i rewiredAt 0)
+
+  pub awaited-none : count ≡ 0 → false ≡ isAwaited count i
+  unfolding isAwaited
+  awaited-none z = rw (eq-eqb _ _ z)
+
+  pub awaited-some : (x : ℕ) → (count ≡ 0 → ⊥) → x ≡ touched → not (eqb x 0) ≡ isAwaited count i
+  unfolding isAwaited
+  awaited-some x l e = rw (ne-eqb _ _ l, e)
+
+  module _ (r : Bool) (e : r ≡ isAwaited count i) where
+    pub awaited-listed : r ≡ true → count ≡ 0 → ⊥
+    unfolding isAwaited
+    awaited-listed h z = true≢false (sym h ∙ e ∙ rw (eq-eqb _ _ z))
+
+    unawaited : r ≡ false → 0 < count → touched ≡ 0
+    unfolding isAwaited
+    unawaited h l = eqb-true _ _ (not-false _ (rw (ne-eqb count 0 (omega arith)) at (sym e ∙ h)))
+
+pub ruleset awaits = (awaited-none, awaited-some)
+
 -- what is tracked when an update begins, with its sets up to date where something is listed
 module _ (s w i : List ℕ) (count : ℕ) where
-  pub prepared-none : count < 1 → Tracked s w i → Prepared count s w i
-  prepared-none z h = record { tracked = h; settled = λ l. absurd (omega arith) }
-
   pub prepared-settled : Settled s w i → Prepared count s w i
   prepared-settled h = record { tracked = h .tracked; settled = λ l. h }
 
-  pub prepared-still : (x : ℕ) → Tracked s w i → x ≡ bitOr (getD i movedAt 0) (getD i rewiredAt 0) → x ≡ 0 → Prepared count s w i
-  prepared-still x h e z = prepared-settled (settled-already s w i h x e z)
+  pub prepared-still : Tracked s w i → (r : Bool) → r ≡ isAwaited count i → r ≡ false → Prepared count s w i
+  prepared-still h r e z = record { tracked = h; settled = λ l. settled-already s w i h _ refl (unawaited count i r e z l) }
 
   module _ (h : Prepared count s w i) where
     pub prepared-mirrored : Mirrored s i
     prepared-mirrored = h .tracked .mirrored
 
-    -- none is listed
-    pub carried-none : (p t i₁ : List ℕ) (at listing : ℕ) → count ≡ 0 → Mutated p s at i t i₁ → length t ≡ length s → CarriedOut p s at listing count t w i₁ false
+    -- nothing is listed, or the mutations changed nothing
+    pub carried-still : (p t i₁ : List ℕ) (at listing : ℕ) (r : Bool) → r ≡ isAwaited count i₁ → r ≡ false → Mutated p s at i t i₁ → length t ≡ length s → CarriedOut p s at listing count t w i₁ false
     unfolding broken
-    carried-none p t i₁ at listing z made long = record {
-      tracked = made-tracked p s t w i i₁ at count made h;
+    carried-still p t i₁ at listing b e z made long = record {
+      tracked = tracked;
       same-fixed = made .same-fixed;
       same-length = long;
       made = made .made;
-      judged = λ qs end r. let e = many-none (readQuery p (roles s)) count listing r (omega arith) in rw (e .0) refl;
+      judged = λ qs end r. by-count qs end r (decLt 0 count);
     }
+      where
+        tracked : Tracked t w i₁
+        tracked = made-tracked p s t w i i₁ at count made h
+
+        by-count : (qs : List Query) (end : ℕ) → readMany (readQuery p (roles s)) count listing ≡ got qs end → Dec (0 < count) → false ≡ broken qs s t
+        by-count qs end r (yes l) = sym (none-broken s t w (h .settled l .live) (settled-already t w i₁ tracked _ refl (unawaited count i₁ b e z l) .live) p (made .same-fixed .same-roles) count listing r)
+        by-count qs end r (no l) = let e = many-none (readQuery p (roles s)) count listing r (omega arith) in rw (e .0) refl
 
     pub carried : (p t u i₁ i₂ : List ℕ) (at listing : ℕ) (b : Bool) → (count ≡ 0 → ⊥) → Mutated p s at i t i₁ → Judged p listing count t w u i₂ b → length t ≡ length s
         → CarriedOut p s at listing count t u i₂ b
@@ -84,20 +123,13 @@ module _ (s w i : List ℕ) (count : ℕ) where
       judged = j .judged s (h .settled (omega arith) .live) (made .same-fixed .same-roles);
     }
 
-pub ruleset prepareds = (prepared-none, prepared-settled, prepared-still)
-
 module _ (p : List ℕ) (listing count : ℕ) (t w : List ℕ) where
   module _ (i : List ℕ) where
-    -- the sets are right as they are, so no query breaks
-    same-judged : Settled t w i → Judged p listing count t w w i false
-    same-judged h = record { tracked = h .tracked; judged = λ s live same qs end r. sym (none-broken s t w live (h .live) p same count listing r) }
-
-    -- nothing was touched, or nobody's places changed by it
-    pub judged-still : (x : ℕ) → Tracked t w i → x ≡ bitOr (getD i movedAt 0) (getD i rewiredAt 0) → x ≡ 0 → Judged p listing count t w w i false
-    judged-still x h e z = same-judged (settled-already t w i h x e z)
-
+    -- nobody's places changed: the sets are right as they are, so no query breaks
     pub judged-same : (i₀ : List ℕ) (some : ℕ) → Tracked t w i₀ → Sifted w i₀ i some → some ≡ 0 → Judged p listing count t w w i false
-    judged-same i₀ some h g z = same-judged (settling-done t w i some (settling-start t w i₀ i some h g) (omega arith))
+    judged-same i₀ some h g z =
+        let settled = settling-done t w i some (settling-start t w i₀ i some h g) (omega arith) in
+        record { tracked = settled .tracked; judged = λ s live same qs end r. sym (none-broken s t w live (settled .live) p same count listing r) }
 
   pub judged-so : (u i₁ : List ℕ) (before after : ℕ) (b : Bool) → Settled t u i₁ → HeldAt p listing count w before → HeldAt p listing count u after → b ≡ within before after
       → Judged p listing count t w u i₁ (not b)
@@ -115,7 +147,7 @@ settled-atoms s w i h = h .live .long
 
 pub ruleset judges = (settling-atoms, settled-atoms, judged-so)
 
-pub ruleset judgings = (tracked-long, tracked-atoms, tracked-few, settling-start, judged-still, judged-same)
+pub ruleset judgings = (tracked-long, tracked-atoms, tracked-few, settling-start, judged-same)
 
 pub update-there : (p s : List ℕ) (at : ℕ) → Mutable p s at → at + 2 ≤ length p
 unfolding Mutable
@@ -132,7 +164,7 @@ bytes-there p s count at h l =
     let e = queries-end p (roles s) count at (h .is-read) (omega (arith, query-parts p (roles s) at (v .head-read) .inside)) in
     omega (arith, e .0, e .1)
 
-pub ruleset carries = (prepared-mirrored, update-there, made-tracked, carried-none, carried, few-listed, bytes-there)
+pub ruleset carries = (tracked-long, prepared-mirrored, prepared-settled, prepared-still, update-there, made-tracked, carried-still, carried, awaited-listed, few-listed, bytes-there, not-true, not-false)
 
 -- Where the update and the list of an accepted program stand, they do under every policy with the same fixed part.
 module _ (p s t : List ℕ) (f : SameFixed s t) where

@@ -2,8 +2,10 @@
 use mathlib.Core.Path.{_≡_}
 use Prim.Native.Nat.{ℕ, _+_, _<_}
 use mathlib.Core.List.{List}
-use mathlib.Core.Bool.{Bool}
-use lib.ListN.{length}
+use mathlib.Core.Bool.{Bool, not, _&&_}
+use lib.Dec.{eqb}
+use lib.Bits.{bitOr}
+use lib.ListN.{length, getD}
 use Rattle.model.specs.Bytes.{byte}
 use Rattle.model.specs.Policy.{principals, roles, SameFixed}
 use Rattle.model.specs.Mutation.{Mutation}
@@ -11,8 +13,12 @@ use Rattle.model.specs.Syntax.{Query}
 use Rattle.model.specs.Program.{got, readMany, readQuery, readMutation}
 use Rattle.model.specs.Run.{mutateAll, broken}
 use Rattle.tracked.specs.Live.{Live}
-use Rattle.tracked.specs.Index.{Tracked}
+use Rattle.tracked.specs.Index.{movedAt, rewiredAt, Tracked}
 use Rattle.settling.specs.Settle.{Settled}
+
+-- whether the sets are asked for and may be out of date: something is listed, and a word was touched
+unfoldable pub isAwaited : ℕ → List ℕ → Bool
+isAwaited count w = not (eqb count 0) && not (eqb (bitOr (getD w movedAt 0) (getD w rewiredAt 0)) 0)
 
 -- what is tracked of a policy, and the sets are right where something is listed
 pub record Prepared (count : ℕ) (s atoms w : List ℕ) : Type 0 where

@@ -9,7 +9,7 @@ ghost use Rattle.tracked.specs.Index.{indexWords, Tracked};
 ghost use Rattle.settling.specs.Settle.{Settling};
 ghost use Rattle.update.specs.Mutations.{Mutable};
 ghost use Rattle.update.specs.Listed.{Listing};
-ghost use Rattle.update.specs.Change.{Prepared, Judged, CarriedOut};
+ghost use Rattle.update.specs.Change.{isAwaited, Judged, CarriedOut};
 use super::listed;
 use super::mutations;
 use settling::settle;
@@ -26,19 +26,17 @@ pub fn track(policy: &[u8], atoms: &mut [u32], index: &mut [u64])
     index::load(policy, index);
 }
 
-// Brings the sets up to date where something is listed: what holds before the update is then asked of them. Mostly nothing was
-// touched, and then this is two tests and no call.
-fn prepare(count: u8, policy: &[u8], atoms: &mut [u32], index: &mut [u64])
-    requires { ⌜ Tracked (now policy) (now atoms) (now index) ⌝ }
-    ensures { λ _. ⌜ Prepared count (now (policy .entry)) (now (atoms .exit)) (now (index .exit)) ⌝ }
+// Whether the sets are asked for and may be out of date: something is listed, and something was touched. Mostly not, and then an
+// update passes the policy on to nothing but its mutations: with this test behind the call that settles, updates of one mutation
+// took a seventh longer.
+fn is_awaited(count: u8, index: &[u64]) -> bool
+    requires { ⌜ length (now index) ≡ indexWords ⌝ }
+    ensures { λ r. ⌜ r ≡ isAwaited count (now (index .entry)) ⌝ }
 {
-    if count < 1 {
-        return;
+    if count == 0 {
+        return false;
     }
-    if index::pending(index) == 0 {
-        return;
-    }
-    settle::settle_all(policy, atoms, index);
+    index::pending(index) != 0
 }
 
 // Whether a listed query broke by mutations that can have changed the places of some principals. Until these are settled the
@@ -74,9 +72,6 @@ fn settle_judged(
     requires { ⌜ (Tracked (now policy) (now atoms) (now index)) × (count ≤ listLimit) × (listing + 2 * count ≤ length (now program)) ⌝ }
     ensures { λ r. ⌜ Judged (now (program .entry)) listing count (now (policy .entry)) (now (atoms .entry)) (now (atoms .exit)) (now (index .exit)) r ⌝ }
 {
-    if index::pending(index) == 0 {
-        return false;
-    }
     let some = index::sift(atoms, index);
     if some == 0 {
         return false;
@@ -99,9 +94,11 @@ pub fn carry_out(
     requires { ⌜ (Tracked (now policy) (now atoms) (now index)) × (Mutable (now program) (now policy) at) × Listing (now program) (now policy) count listing ⌝ }
     ensures { λ r. ⌜ CarriedOut (now (program .entry)) (now (policy .entry)) at listing count (now (policy .exit)) (now (atoms .exit)) (now (index .exit)) r ⌝ }
 {
-    prepare(count, policy, atoms, index);
+    if is_awaited(count, index) {
+        settle::settle_all(policy, atoms, index);
+    }
     mutations::mutate_all(program, at, policy, index);
-    if count == 0 {
+    if !is_awaited(count, index) {
         return false;
     }
     settle_judged(program, listing, count, policy, atoms, index)
