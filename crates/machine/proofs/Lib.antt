@@ -1,5 +1,4 @@
-pub mod MemoryLaws
 pub mod Running
 mod TurnLaws
 mod OperatorLaws
-pub mod StopLaws
+mod StopLaws

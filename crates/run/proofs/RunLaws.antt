@@ -28,9 +28,9 @@ use Rattle.flow.specs.declared.verdict.Verdict.{Verdict}
 use Rattle.flow.specs.declared.verdict.Verdict.the-variants.{Fine, Refused}
 use Rattle.flow.specs.Verdict.{verdictOf}
 use Rattle.run.specs.declared.run.Answer.{Answer}
-use Rattle.machine.specs.declared.steps.Stop.{Stop}
-use Rattle.machine.specs.declared.steps.Stop.the-variants.{Finished, Spent}
-use Rattle.machine.specs.Memory.{Kept}
+use Rattle.turn.specs.declared.fuel.Stop.{Stop}
+use Rattle.turn.specs.declared.fuel.Stop.the-variants.{Finished, Spent}
+use Rattle.turn.specs.Memory.{Kept}
 use Rattle.machine.specs.Steps.{Ready, endingOf, StopsAs, leftOf}
 use Rattle.run.specs.Run.{Admitted, Rooms, Loadable, Loaded, Executed, Finishable}
 use Rattle.machine.proofs.Running.{represents-kept, program-short}

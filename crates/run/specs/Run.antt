@@ -14,7 +14,7 @@ use Rattle.model.specs.Machine.{answerOf}
 use Rattle.model.specs.Calls.{runAnswer}
 use Rattle.tracked.specs.Live.{atomWords}
 use Rattle.tracked.specs.Index.{indexWords, Tracked}
-use Rattle.machine.specs.declared.steps.Stop.{Stop}
+use Rattle.turn.specs.declared.fuel.Stop.{Stop}
 use Rattle.machine.specs.Steps.{leftOf, endingOf}
 
 -- a run that is not refused, and the number of its variables

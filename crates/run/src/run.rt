@@ -12,15 +12,15 @@ ghost use Rattle.machine.specs.Steps.{endingOf};
 ghost use Rattle.run.specs.Run.{Admitted, Rooms, Loadable, Loaded, Executed, Finishable};
 use code::words;
 use flow::verdict::Verdict;
-use machine::memory;
 use machine::steps;
-use machine::steps::Stop;
 use program::layout;
 use shared::bytes;
 use shared::limit;
 use shared::number;
 use tracked::atoms;
 use tracked::index;
+use turn::fuel::Stop;
+use turn::memory;
 use update::change;
 
 // What a run gives: document 01's number, and the units.

@@ -1,0 +1,3 @@
+mod MemoryLaws
+mod FuelLaws
+mod NodeLaws
