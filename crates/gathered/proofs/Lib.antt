@@ -2,5 +2,3 @@ pub mod PositionLaws
 mod AddedLaws
 mod LabelLaws
 mod WriteLaws
-mod BodyLaws
-mod SpanLaws

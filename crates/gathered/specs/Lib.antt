@@ -2,4 +2,3 @@ pub mod Words
 pub mod Positions
 pub mod Labels
 pub mod Writes
-pub mod Bodies

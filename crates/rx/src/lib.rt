@@ -76,7 +76,7 @@ pub extern "C" fn rx_transaction(
     let verdict = flow::verdict::program_verdict(policy, program);
     match verdict {
         Verdict::Fine => {
-            let span = gathered::span::body_span(policy, program, k as usize);
+            let span = transactions::span::body_span(policy, program, k as usize);
             *start = span.start;
             *length = span.size;
             number::ACCEPTED
@@ -94,10 +94,10 @@ pub fn transaction_body<'a>(policy: &[u8], program: &'a [u8], k: usize) -> &'a [
     ensures { λ r. ⌜ now r ≡ partBytes (now (program .entry)) (transactionPart (now (policy .entry)) (now (program .entry)) k) ⌝ }
 {
     let Verdict::Fine = flow::verdict::program_verdict(policy, program) else {
-        return gathered::span::part_of(program, 0, 0);
+        return transactions::span::part_of(program, 0, 0);
     };
-    let span = gathered::span::body_span(policy, program, k);
-    gathered::span::part_of(program, span.start, span.size)
+    let span = transactions::span::body_span(policy, program, k);
+    transactions::span::part_of(program, span.start, span.size)
 }
 
 // A run: the number 0, 1 to 6, 10 to 18, 20, 21 or 22, and in `units` the units. Policy and memory are written by 0 alone.

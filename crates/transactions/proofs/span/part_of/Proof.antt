@@ -1,7 +1,7 @@
-use Rattle.gathered.proofs.SpanLaws.{parts}
+use Rattle.transactions.proofs.SpanLaws.{parts}
 use borrow.Author.Needs.{needs}
-use Rattle.gathered.proofs.span.part_of.Statement.{statement}
-use Rattle.gathered.proofs.span.part_of.Tie as tie
+use Rattle.transactions.proofs.span.part_of.Statement.{statement}
+use Rattle.transactions.proofs.span.part_of.Tie as tie
 
 pub part-of-spec : {M : Type 1} → statement M
 part-of-spec = tie.close (tie.spec (λ c. search needs) (λ c. search needs) (λ c. search needs) (λ c. search needs) (λ c. search (needs, parts)))

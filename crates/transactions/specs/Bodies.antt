@@ -8,8 +8,8 @@ use Rattle.model.specs.Bytes.{byte}
 use Rattle.model.specs.Syntax.{Stmt}
 use Rattle.model.specs.Program.{got, readMany, readStmt, blockOf}
 use Rattle.model.specs.Flow.{Part, part, bodies}
-use Rattle.gathered.specs.declared.bodies.Found.{Found}
+use Rattle.transactions.specs.declared.bodies.Found.{Found}
 use Rattle.gathered.specs.Writes.{Fit}
 
 -- none here: where it ends, and how many transactions are still to pass
 abbrev pub noneFound : ℕ → ℕ → Found

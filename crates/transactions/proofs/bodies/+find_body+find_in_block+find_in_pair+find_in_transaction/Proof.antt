@@ -1,34 +1,34 @@
 -- A statement calls a part with one less of depth, and a part calls statements with what it was given: twice the depth, and
 -- one more in a part, falls at every call. A block's loop keeps that the search of what is left comes to the search of all.
-use Rattle.gathered.proofs.BodyLaws.{Searching, found-none, found-unknown, found-skip, found-assign, found-block, found-if, found-while, found-query, found-update, found-transaction, inside, pairs, searchings}
+use Rattle.transactions.proofs.BodyLaws.{Searching, found-none, found-unknown, found-skip, found-assign, found-block, found-if, found-while, found-query, found-update, found-transaction, inside, pairs, searchings}
 use borrow.Author.Needs.{needs}
 use Prim.Native.Nat.{ℕ, _<_, _+_, _*_}
 use borrow.Fn.Kinds.{In}
 use borrow.Fn.PlainCycle.{Measures, is, falls, and}
-use Rattle.gathered.proofs.bodies.find_body.Reads as find-body
-use Rattle.gathered.proofs.bodies.find_body.Kinds as find-body-kinds
-use Rattle.gathered.proofs.bodies.+find_body+find_in_block+find_in_pair+find_in_transaction.Lts-find_body as find-body-lts
-use Rattle.gathered.proofs.bodies.find_in_block.Reads as find-in-block
-use Rattle.gathered.proofs.bodies.find_in_block.Kinds as find-in-block-kinds
-use Rattle.gathered.proofs.bodies.+find_body+find_in_block+find_in_pair+find_in_transaction.Lts-find_in_block as find-in-block-lts
-use Rattle.gathered.proofs.bodies.find_in_pair.Reads as find-in-pair
-use Rattle.gathered.proofs.bodies.find_in_pair.Kinds as find-in-pair-kinds
-use Rattle.gathered.proofs.bodies.+find_body+find_in_block+find_in_pair+find_in_transaction.Lts-find_in_pair as find-in-pair-lts
-use Rattle.gathered.proofs.bodies.find_in_transaction.Reads as find-in-transaction
-use Rattle.gathered.proofs.bodies.find_in_transaction.Kinds as find-in-transaction-kinds
-use Rattle.gathered.proofs.bodies.+find_body+find_in_block+find_in_pair+find_in_transaction.Lts-find_in_transaction as find-in-transaction-lts
-use Rattle.gathered.proofs.bodies.bytes_between.Reads as bytes-between-reads
-use Rattle.gathered.proofs.bodies.missing.Reads as missing-reads
+use Rattle.transactions.proofs.bodies.find_body.Reads as find-body
+use Rattle.transactions.proofs.bodies.find_body.Kinds as find-body-kinds
+use Rattle.transactions.proofs.bodies.+find_body+find_in_block+find_in_pair+find_in_transaction.Lts-find_body as find-body-lts
+use Rattle.transactions.proofs.bodies.find_in_block.Reads as find-in-block
+use Rattle.transactions.proofs.bodies.find_in_block.Kinds as find-in-block-kinds
+use Rattle.transactions.proofs.bodies.+find_body+find_in_block+find_in_pair+find_in_transaction.Lts-find_in_block as find-in-block-lts
+use Rattle.transactions.proofs.bodies.find_in_pair.Reads as find-in-pair
+use Rattle.transactions.proofs.bodies.find_in_pair.Kinds as find-in-pair-kinds
+use Rattle.transactions.proofs.bodies.+find_body+find_in_block+find_in_pair+find_in_transaction.Lts-find_in_pair as find-in-pair-lts
+use Rattle.transactions.proofs.bodies.find_in_transaction.Reads as find-in-transaction
+use Rattle.transactions.proofs.bodies.find_in_transaction.Kinds as find-in-transaction-kinds
+use Rattle.transactions.proofs.bodies.+find_body+find_in_block+find_in_pair+find_in_transaction.Lts-find_in_transaction as find-in-transaction-lts
+use Rattle.transactions.proofs.bodies.bytes_between.Reads as bytes-between-reads
+use Rattle.transactions.proofs.bodies.missing.Reads as missing-reads
 use Rattle.gathered.proofs.positions.after_expr.Reads as after-expr-reads
 use Rattle.gathered.proofs.positions.after_list.Reads as after-list-reads
 use Rattle.gathered.proofs.positions.ahead.Reads as ahead-reads
 use Rattle.shared.proofs.bytes.byte_at.Reads as byte-at-reads
 use Rattle.gathered.proofs.positions.statement_at.Reads as statement-at-reads
 use Rattle.gathered.proofs.writes.stmt_writes.Reads as stmt-writes-reads
-use Rattle.gathered.proofs.bodies.+find_body+find_in_block+find_in_pair+find_in_transaction.{
+use Rattle.transactions.proofs.bodies.+find_body+find_in_block+find_in_pair+find_in_transaction.{
   statement,
 }
-use Rattle.gathered.proofs.bodies.+find_body+find_in_block+find_in_pair+find_in_transaction.Tie.{
+use Rattle.transactions.proofs.bodies.+find_body+find_in_block+find_in_pair+find_in_transaction.Tie.{
   close,
 }
 

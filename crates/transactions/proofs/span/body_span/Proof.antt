@@ -1,7 +1,7 @@
-use Rattle.gathered.proofs.SpanLaws.{spans}
+use Rattle.transactions.proofs.SpanLaws.{spans}
 use borrow.Author.Needs.{needs}
-use Rattle.gathered.proofs.span.body_span.Statement.{statement}
-use Rattle.gathered.proofs.span.body_span.Tie as tie
+use Rattle.transactions.proofs.span.body_span.Statement.{statement}
+use Rattle.transactions.proofs.span.body_span.Tie as tie
 
 pub body-span-spec : {M : Type 1} → statement M
 body-span-spec =

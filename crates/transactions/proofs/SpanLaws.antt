@@ -14,9 +14,9 @@ use Rattle.model.proofs.Accepted.{accepted-facts}
 use Rattle.model.proofs.FlowParts.{accepted-program}
 use Rattle.model.proofs.Bodies.{PartWithin, each-at, transaction-is}
 use Rattle.model.proofs.Reading.{program-parts}
-use Rattle.gathered.specs.declared.bodies.Found.{Found}
-use Rattle.gathered.specs.Bodies.{foundOf, FoundAt}
-use Rattle.gathered.proofs.BodyLaws.{found-part}
+use Rattle.transactions.specs.declared.bodies.Found.{Found}
+use Rattle.transactions.specs.Bodies.{foundOf, FoundAt}
+use Rattle.transactions.proofs.BodyLaws.{found-part}
 
 module _ (s p : List ℕ) (k : ℕ) (h : programVerdict s p ≡ fine) where
   -- the body that the model names is inside the program

@@ -16,12 +16,12 @@ use Rattle.program.specs.declared.codes.StatementOf.{StatementOf}
 use Rattle.program.specs.declared.codes.StatementOf.the-variants as statement
 use Rattle.program.specs.Codes.{statementOf, statementByte}
 use Rattle.program.proofs.CodeLaws.{statement-byte, statement-none}
-use Rattle.gathered.specs.declared.bodies.Found.{Found}
+use Rattle.transactions.specs.declared.bodies.Found.{Found}
 use Rattle.gathered.specs.Positions.{ahead, afterList, ExprEnds}
 use Rattle.gathered.specs.Writes.{Fit, WritesAt}
-use Rattle.gathered.specs.Bodies.{noneFound, oneFound, foundOf, FoundAt, FoundInPair, FoundInBlock, FoundInBody}
+use Rattle.transactions.specs.Bodies.{noneFound, oneFound, foundOf, FoundAt, FoundInPair, FoundInBlock, FoundInBody}
 use Rattle.model.proofs.Standing.{many-none, many-more, mutations-end, stmt-deep, stmt-there, stmt-known, skip-parts, assign-parts, block-parts, if-parts, while-parts, branch-parts, update-parts, transaction-parts}
 use Rattle.gathered.proofs.PositionLaws.{ahead-is, list-is}
 
 -- the search in two lists of bodies: in the first, then in the second with what the first left
 module _ (ys : List Part) (mid end : ℕ) where
