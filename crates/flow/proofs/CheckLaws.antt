@@ -1,31 +1,26 @@
 -- A law for each return of check.rt: the tests that led there and what the callees say give the rules' verdict of the tree
 -- that stands at the position.
 use mathlib.Core.Path.{_≡_, refl, sym, ap, subst, _∙_}
-use mathlib.Core.Logic.{⊎-elim}
 use Prim.Native.Nat.{ℕ, _+_, _-_, _<_, _≤_}
 use native.Mathlib.Omega.{arith}
-use native.Mathlib.Nat.{lt-of-lt-of-le}
-use native.Mathlib.Decide.{ℕ-discrete}
-use mathlib.Core.List.{List, [], _∷_, _++_, List·Memᴰ·head, List·Memᴰ·tail}
-use mathlib.Core.Bool.{Bool, true, false, cond, true≢false}
-use lib.Bits.{bitOr, or-zero-r}
+use mathlib.Core.List.{List, [], _∷_, _++_}
+use mathlib.Core.Bool.{Bool, true, false}
+use lib.Bits.{bitOr}
 use lib.Dec.{eqb}
 use lib.ListN.{length, getD}
-use borrow.Author.Tests.{ne-eqb, eqb-true}
+use borrow.Author.Tests.{eqb-true}
 use Rattle.model.specs.Limits.{roleLimit, expressionDepth}
-use Rattle.model.specs.Number.{Verdict, fine, refused, require, orElse}
+use Rattle.model.specs.Number.{Verdict, fine, refused, orElse}
 use Rattle.model.specs.Bytes.{byte}
-use Rattle.model.specs.Policy.{Side, reading, trust, principals, roles, Accepted}
-use Rattle.model.specs.Mutation.{Mutation}
-use Rattle.model.specs.Syntax.{Atom, Query as ModelQuery, Expr, Stmt, skip, assign, empty, block, if, while, query as stmtQuery, update, transaction}
-use Rattle.model.specs.Program.{got, variables, readMany, readExpr, readQuery, readStmt, blockOf}
-use Rattle.model.specs.Fits.{Each, QueryFits, MutationFits, ExprFits, Fits}
-use Rattle.model.specs.Flow.{Around as Surroundings, outside, inside, exprLabel, queryLabel, listLabel, underQuery, assigned, rolesOf, mutated, listedIn, allAllowed, mayAssign, mayUpdate, flow}
+use Rattle.model.specs.Policy.{Side, principals, roles, Accepted}
+use Rattle.model.specs.Syntax.{Atom, Query as ModelQuery, Expr, Stmt, block, if, while, query as stmtQuery}
+use Rattle.model.specs.Program.{got, variables, readMany, readQuery, readStmt, blockOf}
+use Rattle.model.specs.Fits.{QueryFits}
+use Rattle.model.specs.Flow.{Around as Surroundings, outside, inside, exprLabel, queryLabel, underQuery, assigned, mutated, listedIn, flow}
 use Rattle.model.proofs.Accepted.{accepted-facts}
-use Rattle.model.proofs.Reading.{stmt-within}
 use Rattle.model.proofs.Fits.{listed-member}
-use Rattle.model.proofs.Sets.{has-zero, in-none, has-or-l, has-or-r, or-has, has-with-same, with-has}
-use Rattle.model.proofs.Standing.{many-none, many-more, mutations-end, stmt-deep, stmt-there, stmt-known, skip-parts, assign-parts, block-parts, if-parts, while-parts, branch-parts, update-parts, transaction-parts}
+use Rattle.model.proofs.Sets.{has-or-l, has-or-r}
+use Rattle.model.proofs.Standing.{many-none, many-more, stmt-deep, stmt-there, stmt-known, skip-parts, block-parts, if-parts, while-parts, branch-parts, transaction-parts}
 use Rattle.model.proofs.FlowParts.{Subset}
 use Rattle.program.specs.declared.codes.Atom.{Atom as CodeAtom}
 use Rattle.program.specs.declared.codes.Statement.{Statement}
@@ -33,62 +28,29 @@ use Rattle.program.specs.declared.codes.Statement.the-variants.{Skip, Assign, B
 use Rattle.program.specs.declared.codes.StatementOf.{StatementOf}
 use Rattle.program.specs.declared.codes.StatementOf.the-variants as statement
 use Rattle.program.specs.Answer.{Reached, reached, stopped, placeLimit, refusal, told}
-use Rattle.program.proofs.AnswerLaws.{position-told, refusal-told, refusal-kept}
+use Rattle.program.proofs.AnswerLaws.{position-told, refusal-told}
 use Rattle.program.specs.Codes.{statementOf, statementByte}
 use Rattle.program.proofs.CodeLaws.{statement-byte, statement-none}
 use Rattle.order.specs.Table.{tableWords, queryOf, Learnt}
 use Rattle.order.proofs.LearnLaws.{known-learnt}
 use Rattle.gathered.specs.Positions.{ahead, afterList}
-use Rattle.gathered.specs.Words.{exprRoles}
-use Rattle.gathered.specs.Labels.{LabelsBelow, labelsAdded, allBelow, LabelsAt}
-use Rattle.gathered.specs.Writes.{WritesAt}
+use Rattle.gathered.specs.Labels.{allBelow, LabelsAt}
 use Rattle.gathered.proofs.PositionLaws.{ahead-is, list-is}
-use Rattle.context.specs.declared.around.Join.{Join}
 use Rattle.context.specs.declared.lists.QueryOf.{QueryOf}
 use Rattle.context.specs.declared.lists.QueryOf.the-variants as query
-use Rattle.context.specs.Lists.{ListedAt, QueryAt, KnownAt, QueryRolesAt, ListRolesAt, AllowedAt}
-use Rattle.context.specs.Context.{Around, Meets, Labels, Context, aroundOf, meetsOf, labelsOf, contextOf, withLabels, withNamed, joinOf, meetOf, ContextIs}
-use Rattle.context.specs.Judge.{SetBelow, sidesNumber, Asked, allAbove, bothAbove, liesIn, Met, MetBoth, Held, heldNumber, updateNumber, AssignNumber}
-use Rattle.flow.specs.Check.{checkedTo, numbered, numberedWord, Ready, Inside, Outside, AroundIs, MeetsAre, mayFlow, Free, Stands, StmtAt, Writes, StmtFits, CheckedAt, CodedAt, AssignAt, UpdateAt, PairAt, BranchesAt, Knowing, BothAt, LearntAt, BranchesOf, bodyStart, EnteredAt, Enters}
-use Rattle.context.proofs.ContextLaws.{context-expr, context-query, context-list}
+use Rattle.context.specs.Lists.{ListedAt, QueryAt, KnownAt, QueryRolesAt}
+use Rattle.context.specs.Context.{Around, Meets, Labels, Context, aroundOf, meetsOf, labelsOf, contextOf, withLabels, withNamed, ContextIs}
+use Rattle.context.specs.Judge.{MetBoth, Held}
+use Rattle.rules.specs.Check.{checkedTo, AroundIs, MeetsAre, mayFlow, Free, Stands, StmtAt, Writes, StmtFits, CheckedAt, AssignAt, UpdateAt, bodyStart, EnteredAt, Enters}
+use Rattle.flow.specs.Check.{Ready, CodedAt, PairAt, BranchesAt, Knowing, BothAt, LearntAt, BranchesOf}
+use Rattle.context.proofs.ContextLaws.{context-query, context-list}
 use Rattle.context.proofs.ListLaws.{query-not, query-is}
-use Rattle.context.proofs.JudgeLaws.{met-sides, held-none}
+use Rattle.rules.proofs.StandsLaws.{stopped-told, stands-asked, roles-few, low-start, low-end, stands-labels, labels-are, under-expr, within-one, within-none, added-context}
 use Rattle.flow.proofs.FreeLaws.{all-fits, free-query, free-same, free-met, free-known, free-expr}
 
--- a transaction around
-pub inside-is : (a : List ℕ) (i : Bool) → i ≡ aroundOf a .inside → i ≡ true → aroundOf a .inside ≡ true
-inside-is a i e f = sym e ∙ f
-
--- answers
-pub numbered-fine : (k place end : ℕ) → k ≡ 0 → end ≡ numberedWord k place end
-unfolding numberedWord
-numbered-fine k place end e = rw e
-
-pub numbered-refused : (k place end w : ℕ) → (k ≡ 0 → ⊥) → w ≡ refusal k place → w ≡ numberedWord k place end
-unfolding numberedWord
-numbered-refused k place end w n e = rw (ne-eqb k 0 n) e
-
-pub ruleset answers = (numbered-fine, numbered-refused)
-
-numbered-told : (k place end w : ℕ) → w ≡ numberedWord k place end → place < placeLimit → end < placeLimit → told w ≡ numbered k place end
-unfolding numberedWord numbered
-numbered-told k place end w e l m = go (ℕ-discrete k 0)
-  where
-    go : Dec (k ≡ 0) → told w ≡ cond (eqb k 0) (reached end) (stopped k place)
-    go (yes z) = rw (e, z) (position-told end m)
-    go (no n) = rw (e, ne-eqb k 0 n) (refusal-kept k place (omega arith) l)
-
-stopped-told : (w k place : ℕ) → w ≡ refusal k place → 0 < k → place < placeLimit → told w ≡ stopped k place
-stopped-told w k place e some l = rw e (refusal-kept k place some l)
-
+-- a position is no refusal
 pub reached-not : {A : Type 0} {m k place : ℕ} → reached m ≡ stopped k place → A
 reached-not e = let z : _≡_ {A = ℕ} 0 1 = cc in absurd (omega arith)
-
-sides-checked : (a b : Bool) (at end : ℕ) → numbered (sidesNumber a b) at end ≡ checkedTo (require a 17 at (require b 18 at fine)) end
-unfolding numbered checkedTo
-sides-checked true true at end = refl
-sides-checked true false at end = refl
-sides-checked false b at end = refl
 
 -- two verdicts one after the other
 module _ (v w : Verdict) (mid end : ℕ) (r : Reached) (e : r ≡ checkedTo v mid) where
@@ -116,44 +78,6 @@ module _ (v w : Verdict) (mid end : ℕ) (r : Reached) (e : r ≡ checkedTo v mi
       go fine e = refl
       go (refused l n) e = reached-not (sym h ∙ e)
 
--- what a statement that fits writes
-zero-below : (n : ℕ) → SetBelow 0 n
-zero-below n i h = absurd (true≢false (sym h ∙ has-zero i))
-
-or-below : (a b n : ℕ) → SetBelow a n → SetBelow b n → SetBelow (bitOr a b) n
-or-below a b n f g i h = ⊎-elim (f i) (g i) (or-has a b i h)
-
-module _ (P R vars : ℕ) where
-  assigned-below : (x : Stmt) → Fits P R vars x → SetBelow (assigned x) vars
-  unfolding assigned
-  assigned-below skip f = zero-below vars
-  assigned-below (assign at x e) f = λ i h. ⊎-elim (λ g. rw g (f .0)) (zero-below vars i) (with-has 0 x i h)
-  assigned-below empty f = zero-below vars
-  assigned-below (block a b) f = or-below (assigned a) (assigned b) vars (assigned-below a (f .0)) (assigned-below b (f .1))
-  assigned-below (if e a b) f = or-below (assigned a) (assigned b) vars (assigned-below a (f .1)) (assigned-below b (f .2))
-  assigned-below (while e a) f = assigned-below a (f .1)
-  assigned-below (stmtQuery at q a b) f = or-below (assigned a) (assigned b) vars (assigned-below a (f .1)) (assigned-below b (f .2))
-  assigned-below (update at ms) f = zero-below vars
-  assigned-below (transaction at start end qs a) f = assigned-below a (f .1)
-
-  roles-below : (ms : List Mutation) → Each (MutationFits P R) ms → SetBelow (rolesOf ms) R
-  unfolding rolesOf
-  roles-below [] f = zero-below R
-  roles-below (m ∷ ms) f = λ i h.
-      ⊎-elim (λ g. rw g (f m (List·Memᴰ·head refl) .0)) (roles-below ms (λ y n. f y (List·Memᴰ·tail n)) i) (with-has (rolesOf ms) (m .role) i h)
-
-  mutated-below : (x : Stmt) → Fits P R vars x → SetBelow (mutated x) R
-  unfolding mutated
-  mutated-below skip f = zero-below R
-  mutated-below (assign at x e) f = zero-below R
-  mutated-below empty f = zero-below R
-  mutated-below (block a b) f = or-below (mutated a) (mutated b) R (mutated-below a (f .0)) (mutated-below b (f .1))
-  mutated-below (if e a b) f = or-below (mutated a) (mutated b) R (mutated-below a (f .1)) (mutated-below b (f .2))
-  mutated-below (while e a) f = mutated-below a (f .1)
-  mutated-below (stmtQuery at q a b) f = or-below (mutated a) (mutated b) R (mutated-below a (f .1)) (mutated-below b (f .2))
-  mutated-below (update at ms) f = roles-below ms f
-  mutated-below (transaction at start end qs a) f = mutated-below a (f .1)
-
 -- what the parts write
 writes-parts : (around : Surroundings) (x a b : Stmt) → assigned x ≡ bitOr (assigned a) (assigned b) → mutated x ≡ bitOr (mutated a) (mutated b)
     → Writes around x → Writes around a × Writes around b
@@ -180,91 +104,11 @@ writes-body : (listed : List ModelQuery) (x : Stmt) → Writes (inside listed (a
 unfolding Writes
 writes-body listed x = (λ i m. m, λ i m. m)
 
--- an update mutates a role, and so does the transaction around it
-writes-update : (listed : List ModelQuery) (xs rs at : ℕ) (m : Mutation) (ms : List Mutation) → Writes (inside listed xs rs) (update at (m ∷ ms)) → rs ≡ 0 → ⊥
-unfolding Writes mutated rolesOf
-writes-update listed xs rs at m ms w z = in-none (m .role) (rw z at (w .1 (m .role) (has-with-same (rolesOf ms) (m .role))))
-
 block-fits : (s p : List ℕ) (around : Surroundings) (a : Stmt) (rest : List Stmt) → StmtFits s p around (blockOf (a ∷ rest)) → StmtFits s p around a × StmtFits s p around (blockOf rest)
 unfolding blockOf assigned mutated
 block-fits s p around a rest f =
     let (l, m) = writes-parts around (block a (blockOf rest)) a (blockOf rest) refl refl (f .1) in
     ((f .0 .0, l), (f .0 .1, m))
-
--- what stands for what, kept up
-module _ {s p t : List ℕ} {c : Context} {around : Surroundings} {known : List ModelQuery} {C : Side → List Atom} (st : Stands s p t c around known C) where
-  stands-asked : (l : Labels) {K : Side → List Atom} → ContextIs (roles s) l K → Asked s p t l known K
-  stands-asked l h = record { is-accepted = st .is-accepted; labels = st .labels; knows = st .knows; context = h }
-
-  roles-few : roles s ≤ roleLimit
-  roles-few = accepted-facts s (st .is-accepted) .roles-fit
-
-  -- a word tells where a statement stands and where it ends
-  low-start : (d at : ℕ) {x : Stmt} {end : ℕ} → StmtAt s p d at x end → at < placeLimit
-  low-start d at h = omega (arith, st .short, stmt-there p (principals s) (roles s) (variables p) d at h)
-
-  low-end : (d at : ℕ) {x : Stmt} {end : ℕ} → StmtAt s p d at x end → end < placeLimit
-  low-end d at h = omega (arith, st .short, stmt-within p (principals s) (roles s) (variables p) d at h .1)
-
-  -- under other labels
-  stands-labels : (l : Labels) {K : Side → List Atom} → ContextIs (roles s) l K → (Free s p around known C → Free s p around known K)
-      → Stands s p t (record { around = c .around; meets = c .meets; labels = l }) around known K
-  stands-labels l h f = record {
-    is-accepted = st .is-accepted;
-    short = st .short;
-    few = st .few;
-    labels = st .labels;
-    knows = st .knows;
-    surrounded = st .surrounded;
-    met = st .met;
-    free = λ z. f (st .free z);
-    context = h;
-  }
-
-  labels-are : (q : ℕ) (b a : List ℕ) (r : ℕ) (e : Expr) (end : ℕ) → LabelsAt p expressionDepth q b a r → readExpr p (variables p) expressionDepth q ≡ got e end → (r ≡ end) × (a ≡ labelsAdded p e b)
-  unfolding LabelsAt LabelsBelow
-  labels-are q b a r e end f h = f (variables p) (λ side x i n. lt-of-lt-of-le (st .labels side x i n) roles-few) e end h
-
-  under-expr : (e : Expr) → ExprFits (variables p) e → ContextIs (roles s) (withLabels (c .labels) (exprRoles p reading e) (exprRoles p trust e)) (λ side. exprLabel p side e ++ C side)
-  under-expr e h = context-expr (roles s) (c .labels) C (st .context) p (variables p) e (st .labels) h
-
--- a transaction around, or none
-record Within (p : List ℕ) (R vars : ℕ) (a : Around) (around : Surroundings) : Type 0 where
-  pub listed : List ModelQuery
-  pub xs : ℕ
-  pub rs : ℕ
-  pub is : around ≡ inside listed xs rs
-  pub parts : Inside p R vars a listed xs rs
-
-within-one : (p : List ℕ) (R vars : ℕ) (a : Around) (around : Surroundings) → AroundIs p R vars a around → a .inside ≡ true → Within p R vars a around
-within-one p R vars a outside h e = absurd (true≢false (sym e ∙ h .flag))
-within-one p R vars a (inside listed xs rs) h e = record { listed = listed; xs = xs; rs = rs; is = refl; parts = h }
-
-within-none : (p : List ℕ) (R vars : ℕ) (a : Around) (around : Surroundings) → AroundIs p R vars a around → a .inside ≡ false → (around ≡ outside) × Outside p vars a
-within-none p R vars a outside h e = (refl, h)
-within-none p R vars a (inside listed xs rs) h e = absurd (true≢false (sym (h .flag) ∙ e))
-
--- the two words that an expression's labels were added to
-module _ (p : List ℕ) (e : Expr) (b a : List ℕ) (h : a ≡ labelsAdded p e b) where
-  added-context : (n ws : ℕ) (C : Side → List Atom) → ContextIs n (labelsOf (bitOr (exprRoles p reading e) (getD b 0 0)) (bitOr (exprRoles p trust e) (getD b 1 0)) ws) C → ContextIs n (labelsOf (getD a 0 0) (getD a 1 0) ws) C
-  added-context n ws C is = rw h is
-
--- an assignment
-pub assign-checked : (p t : List ℕ) (rs ts ws : ℕ) (at q x m : ℕ) (l : List ℕ) (next n : ℕ) (r : ℕ)
-    → q ≡ ahead p at 1 → x ≡ byte p q → m ≡ ahead p at 2 → LabelsAt p expressionDepth m (rs ∷ ts ∷ []) l next
-    → AssignNumber p t (labelsOf (getD l 0 0) (getD l 1 0) ws) x n → r ≡ numberedWord n at next → AssignAt p t (labelsOf rs ts ws) at r
-unfolding AssignAt CheckedAt AssignNumber flow mayAssign
-assign-checked p t rs ts ws at q x m l next n r e₁ e₂ e₃ f h j s c d ce code around known C y end st i fit =
-    let u = assign-parts p (principals s) (roles s) (variables p) d at i code in
-    let xe : x ≡ byte p (at + 1) = e₂ ∙ ap (byte p) (e₁ ∙ ahead-is p at 1 (omega (arith, u .inside))) in
-    let me : m ≡ at + 2 = e₃ ∙ ahead-is p at 2 (u .inside) in
-    let le = labels-are st m (rs ∷ ts ∷ []) l next (u .value) end f (rw me (u .value-read)) in
-    let w = rw (u .is) at (fit .0) in
-    let b = added-context p (u .value) (rs ∷ ts ∷ []) l (le .1) (roles s) ws (λ side. exprLabel p side (u .value) ++ C side) (rw ce at (under-expr st (u .value) (w .1))) in
-    let v = h s known (λ side. exprLabel p side (u .value) ++ C side) (stands-asked st _ b) (rw xe (u .fits)) in
-    let told-so : told r ≡ numbered n at end = numbered-told n at end r (rw (← (le .0)) j) (low-start st d at i) (low-end st d at i) in
-    rw (u .is, told-so, v, ← xe)
-    (sides-checked (mayAssign s p known C x (u .value) reading) (mayAssign s p known C x (u .value) trust) at end)
 
 -- what an update is held to
 met-same : (p t : List ℕ) (m : Meets) {xs xs′ rs rs′ : ℕ} → xs ≡ xs′ → rs ≡ rs′ → ((rs ≡ 0 → ⊥) → MetBoth p t xs rs m) → (rs′ ≡ 0 → ⊥) → MetBoth p t xs′ rs′ m
@@ -273,89 +117,6 @@ met-same p t m e f h = rw (← e, ← f) h
 meets-are : (p t : List ℕ) (R vars : ℕ) (a : Around) (m : Meets) (around : Surroundings) → AroundIs p R vars a around → ((a .roles ≡ 0 → ⊥) → MetBoth p t (a .variables) (a .roles) m) → MeetsAre p t m around
 meets-are p t R vars a m outside h f = tt
 meets-are p t R vars a m (inside listed xs rs) h f = met-same p t m (h .variables-are) (h .roles-are) f
-
-sides-same : {a a′ b b′ : Bool} → a ≡ a′ → b ≡ b′ → sidesNumber a b ≡ sidesNumber a′ b′
-sides-same e f = rw (e, f)
-
--- an update
-module _ (s p : List ℕ) (c : Context) (at : ℕ) where
-  pub update-outside : (i : Bool) (r : ℕ) → i ≡ c .around .inside → i ≡ false → r ≡ refusal 15 at → UpdateAt s p c at r
-  unfolding UpdateAt CheckedAt flow checkedTo
-  update-outside i r f e g t d code around known C x end st h fit =
-      let u = update-parts p (principals s) (roles s) (variables p) d at h code in
-      rw (u .is, within-none p (roles s) (variables p) (c .around) around (st .surrounded) (sym f ∙ e) .0) (stopped-told r 15 at g (omega arith) (low-start st d at h))
-
-  module _ (q n m : ℕ) (b : Bool) (i : q ≡ ahead p at 1) (j : n ≡ byte p q) (k : m ≡ ahead p at 2) (f : AllowedAt s p n m b) where
-    allowed-is : (d : ℕ) (x : Stmt) (end : ℕ) → Accepted s → (h : StmtAt s p d at x end) → (code : byte p at ≡ 6) → b ≡ allAllowed s (update-parts p (principals s) (roles s) (variables p) d at h code .mutations)
-    unfolding AllowedAt
-    allowed-is d x end ok h code =
-        let u = update-parts p (principals s) (roles s) (variables p) d at h code in
-        let ne : n ≡ byte p (at + 1) = j ∙ ap (byte p) (i ∙ ahead-is p at 1 (omega (arith, u .inside))) in
-        let me : m ≡ at + 2 = k ∙ ahead-is p at 2 (u .inside) in
-        f (u .mutations) end ok (rw (ne, me) (u .mutations-read))
-
-    pub update-grant : (r : ℕ) → c .around .inside ≡ true → b ≡ false → r ≡ refusal 16 at → UpdateAt s p c at r
-    unfolding UpdateAt CheckedAt flow checkedTo
-    update-grant r e g re t d code around known C x end st h fit =
-        let u = update-parts p (principals s) (roles s) (variables p) d at h code in
-        let w = within-one p (roles s) (variables p) (c .around) around (st .surrounded) e in
-        let v = sym (allowed-is d x end (st .is-accepted) h code) ∙ g in
-        rw (u .is, w .is, v) (stopped-told r 16 at re (omega arith) (low-start st d at h))
-
-  pub update-number : (r : ℕ) (y o : ℕ) (n m : ℕ) (b : Bool) (q : ℕ)
-      → c .around .inside ≡ true → r ≡ numberedWord y at o → o ≡ afterList p at 3 → (k : ℕ) → k ≡ c .around .named
-      → y ≡ updateNumber (record { around = c .around; meets = c .meets; labels = withNamed (c .labels) k })
-      → AllowedAt s p n m b → b ≡ true → n ≡ byte p q → q ≡ ahead p at 1 → m ≡ ahead p at 2 → UpdateAt s p c at r
-  unfolding UpdateAt CheckedAt MetBoth Met flow mayUpdate allAbove
-  update-number r y o n m b q e re oe k ke h f g e₂ e₁ e₃ t d code around known C x end st i fit =
-      let u = update-parts p (principals s) (roles s) (variables p) d at i code in
-      let w = within-one p (roles s) (variables p) (c .around) around (st .surrounded) e in
-      let v = sym (allowed-is q n m b e₁ e₂ e₃ f d x end (st .is-accepted) i code) ∙ g in
-      let ends = mutations-end p (principals s) (roles s) (byte p (at + 1)) (at + 2) (u .mutations-read) (u .inside) in
-      let oo : o ≡ end = oe ∙ list-is p at 3 (omega arith) ∙ sym (ends .0) in
-      let l = withNamed (c .labels) k in
-      let cl : ContextIs (roles s) l (λ side. C side ++ listLabel side (w .listed)) = subst (λ (n : ℕ). ContextIs (roles s) (withNamed (c .labels) n) (λ side. C side ++ listLabel side (w .listed))) (sym (ke ∙ w .parts .named-are)) (context-list (roles s) (c .labels) C (st .context) (roles-few st) (w .listed) (w .parts .listed-below)) in
-      let K : Side → List Atom = λ side. C side ++ listLabel side (w .listed) in
-      let v₁ = many-more _ (byte p (at + 1)) (at + 2) (u .mutations-read) (u .some) in
-      let writes : Writes (inside (w .listed) (w .xs) (w .rs)) (update at (v₁ .head ∷ v₁ .tail)) = rw (w .is, u .is, v₁ .is) at (fit .1) in
-      let held : MetBoth p t (w .xs) (w .rs) (c .meets) = subst (MeetsAre p t (c .meets)) (w .is) (st .met) (writes-update (w .listed) (w .xs) (w .rs) at (v₁ .head) (v₁ .tail) writes) in
-      let side : (side : Side) → liesIn (joinOf side l) (meetOf side (c .meets)) ≡ bothAbove s p known K side (w .xs) (w .rs) = λ side. held side s l known K (stands-asked st l cl) (w .parts .variables-below) (w .parts .roles-below) in
-      let n = h ∙ sides-same (side reading) (side trust) in
-      let told-so : told r ≡ numbered y at end = numbered-told y at end r (rw (← oo) re) (low-start st d at i) (low-end st d at i) in
-      rw (u .is, w .is, v, told-so, n) (sides-checked (mayUpdate s p known C (w .listed) (w .xs) (w .rs) reading) (mayUpdate s p known C (w .listed) (w .xs) (w .rs) trust) at end)
-
--- entering a transaction
-module _ (p : List ℕ) (d at q m n count list end₀ named : ℕ) (w : List ℕ) (e₁ : q ≡ ahead p at 1) (e₂ : n ≡ byte p q) (e₀ : count ≡ n) (e₃ : list ≡ ahead p at 2)
-    (e₄ : m ≡ afterList p at 2) (f : WritesAt p d m (0 ∷ 0 ∷ []) w end₀) (g : ListRolesAt p n list named) where
-  entered-is : (rest : List ℕ) → EnteredAt p d at (1 ∷ list ∷ count ∷ named ∷ getD w 0 0 ∷ getD w 1 0 ∷ rest)
-  unfolding EnteredAt WritesAt ListRolesAt
-  entered-is rest P R vars listed body end few few′ h i j k fit =
-      let ne : n ≡ byte p (at + 1) = e₂ ∙ ap (byte p) (e₁ ∙ ahead-is p at 1 (omega arith)) in
-      let le : list ≡ at + 2 = e₃ ∙ ahead-is p at 2 (omega arith) in
-      let me : m ≡ bodyStart p at = e₄ ∙ list-is p at 2 h in
-      let x = f P R vars (few, few′) body end (rw me k) .1 in
-      let y : readMany (readQuery p R) n list ≡ got listed (bodyStart p at) = rw (ne, le) i in
-      record {
-        flag = refl;
-        end = bodyStart p at;
-        listed-read = rw e₀ y;
-        listed-below = j;
-        named-are = g R listed (bodyStart p at) y;
-        variables-are = ap (λ (l : List ℕ). getD l 0 0) x ∙ or-zero-r (assigned body);
-        variables-below = assigned-below P R vars body fit;
-        roles-are = ap (λ (l : List ℕ). getD l 1 0) x ∙ or-zero-r (mutated body);
-        roles-below = mutated-below P R vars body fit;
-      }
-
-  pub enters : (t a : List ℕ) (rs ts ws : ℕ) (u v : Join) (z : ℕ) → Met p t reading (getD w 0 0) (getD w 1 0) u → Met p t trust (getD w 0 0) (getD w 1 0) v
-      → z ≡ heldNumber (labelsOf (bitOr (getD a 10 0) rs) (bitOr (getD a 11 0) ts) (bitOr named ws)) u v
-      → Enters p t (aroundOf a) (labelsOf rs ts ws) d at (1 ∷ list ∷ count ∷ named ∷ getD w 0 0 ∷ getD w 1 0 ∷ u .roles ∷ u .watchers ∷ v .roles ∷ v .watchers ∷ 0 ∷ 0 ∷ z ∷ [])
-  enters t a rs ts ws u v z h k e = record {
-    long = refl;
-    entered = entered-is _;
-    held = met-sides p t (getD w 0 0) (getD w 1 0) u v h k;
-    free = λ i. held-none _ u v (sym e ∙ eqb-true z 0 i);
-  }
 
 -- two statements
 module _ (s p t : List ℕ) (c : Context) (d at : ℕ) (o : ℕ) (f : CheckedAt s p t c d at o) where

@@ -28,7 +28,7 @@ use Rattle.context.specs.declared.judge.Written.{Written}
 use Rattle.context.specs.declared.judge.Written.the-variants.{Variable, Role}
 use Rattle.context.specs.Context.{Meets, Labels, joinOf, meetOf}
 use Rattle.context.specs.Judge.{SetBelow, targetOf, Asked, allAbove, liesIn, Met, MetBoth}
-use Rattle.flow.specs.Check.{writesOf, mayFlow, Free}
+use Rattle.rules.specs.Check.{writesOf, mayFlow, Free}
 
 -- the labels of an expression are among those of all variables, and a listed query's among those of the list
 module _ (p : List ℕ) (side : Side) where

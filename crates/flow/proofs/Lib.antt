@@ -1,3 +1,2 @@
 mod FreeLaws
-mod CheckLaws
-mod VerdictLaws
+pub mod CheckLaws

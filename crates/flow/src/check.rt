@@ -2,159 +2,27 @@
 // first. Statement check and transaction check call each other, the remaining depth falling; a flag in the context forbids
 // nesting. Contracts speak of the tree that stands at a position; where none stands, any answer is right. Policy and program go
 // from call to call by references to their slices: each is one register, where a slice is two words in memory.
-ghost use mathlib.Core.Path.{_≡_};
-ghost use mathlib.Core.Bool.{true};
 ghost use Prim.Native.Nat.{_<_};
-ghost use lib.ListN.{length};
-ghost use Rattle.model.specs.Policy.{Accepted};
-ghost use Rattle.order.specs.Table.{tableWords};
 ghost use Rattle.program.specs.declared.codes.Statement.the-variants.{Block, If, While, Query, Transaction};
-ghost use Rattle.context.specs.Context.{aroundWords, aroundOf, labelsOf, contextOf};
-ghost use Rattle.flow.specs.Check.{numberedWord, Ready, Enters, CheckedAt, CodedAt, AssignAt, UpdateAt, PairAt, BothAt, LearntAt, BranchesOf};
+ghost use Rattle.context.specs.Context.{contextOf};
+ghost use Rattle.rules.specs.Check.{CheckedAt};
+ghost use Rattle.flow.specs.Check.{Ready, CodedAt, PairAt, BothAt, LearntAt, BranchesOf};
 use context::around;
 use context::judge;
 use context::lists;
 use context::lists::QueryOf;
 use gathered::labels;
 use gathered::positions;
-use gathered::writes;
 use order::table;
 use policy::rows;
 use program::answer;
 use program::codes::Statement;
 use program::codes::StatementOf;
+use rules::enter;
+use rules::simple;
 use shared::bytes;
 use shared::limit;
 use shared::number;
-
-// The word of a number at a place, on a statement that ends at a position.
-fn numbered(number: u32, at: usize, next: usize) -> u64
-    ensures { λ r. ⌜ r ≡ numberedWord number at next ⌝ }
-{
-    if number == number::ACCEPTED {
-        return next as u64;
-    }
-    answer::refused(number, at)
-}
-
-// Context and expression label are at most the variable's label.
-fn check_assign(
-    program: &&[u8],
-    table: &[u64; table::TABLE_WORDS],
-    readers: u64,
-    trusters: u64,
-    asked: u64,
-    at: usize,
-) -> u64
-    requires { ⌜ length (now table) ≡ tableWords ⌝ }
-    ensures { λ r. ⌜ AssignAt (now (now (program .entry))) (now (table .entry)) (labelsOf readers trusters asked) at r ⌝ }
-{
-    let target = bytes::byte_at(*program, positions::ahead(*program, at, 1));
-    let mut labels = [readers, trusters];
-    let next = labels::expr_labels(
-        program,
-        limit::EXPRESSION_DEPTH,
-        positions::ahead(*program, at, 2),
-        &mut labels,
-    );
-    let number = judge::assign_number(*program, table, labels[0], labels[1], asked, target);
-    numbered(number, at, next)
-}
-
-// An update in a transaction adds only what the policy file allows. The context joined with the labels of all listed queries
-// is at most all that the transaction writes.
-fn check_granted(
-    policy: &&[u8],
-    program: &&[u8],
-    around: &[u64; around::WORDS],
-    readers: u64,
-    trusters: u64,
-    asked: u64,
-    at: usize,
-) -> u64
-    requires { ⌜ (Accepted (now (now policy))) × (length (now around) ≡ aroundWords) × (aroundOf (now around) .inside ≡ true) ⌝ }
-    ensures { λ r. ⌜ UpdateAt (now (now (policy .entry))) (now (now (program .entry))) (contextOf (now (around .entry)) readers trusters asked) at r ⌝ }
-{
-    let count = bytes::byte_at(*program, positions::ahead(*program, at, 1));
-    if lists::all_allowed(*policy, *program, count, positions::ahead(*program, at, 2)) {
-        let named = around::named_of(around) | asked;
-        let number = judge::update_number(around, readers, trusters, named);
-        return numbered(
-            number,
-            at,
-            positions::after_list(*program, at, positions::MUTATION_BYTES),
-        );
-    }
-    answer::refused(number::FLOW_GRANT, at)
-}
-
-// Only in a transaction.
-fn check_update(
-    policy: &&[u8],
-    program: &&[u8],
-    around: &[u64; around::WORDS],
-    readers: u64,
-    trusters: u64,
-    asked: u64,
-    at: usize,
-) -> u64
-    requires { ⌜ (Accepted (now (now policy))) × (length (now around) ≡ aroundWords) ⌝ }
-    ensures { λ r. ⌜ UpdateAt (now (now (policy .entry))) (now (now (program .entry))) (contextOf (now (around .entry)) readers trusters asked) at r ⌝ }
-{
-    if around::is_inside(around) {
-        return check_granted(policy, program, around, readers, trusters, asked, at);
-    }
-    answer::refused(number::FLOW_TRANSACTION, at)
-}
-
-// The words of the transaction whose code stands at `at`, its updates held to what they are by the table. All that may flow in it
-// are the labels of all variables, the context around it and the labels of its listed queries. The words are written where they
-// stay: in a copy of words just written the processor would wait for them.
-fn enter(
-    program: &[u8],
-    table: &[u64; table::TABLE_WORDS],
-    around: &[u64; around::WORDS],
-    readers: u64,
-    trusters: u64,
-    asked: u64,
-    depth: u8,
-    at: usize,
-    inside: &mut [u64; around::WORDS],
-)
-    requires { ⌜ (length (now table) ≡ tableWords) × (length (now around) ≡ aroundWords) ⌝ }
-    ensures { λ _. ⌜ Enters (now (program .entry)) (now (table .entry)) (aroundOf (now (around .entry))) (labelsOf readers trusters asked) depth at (now (inside .exit)) ⌝ }
-{
-    let count = bytes::byte_at(program, positions::ahead(program, at, 1));
-    let list = positions::ahead(program, at, 2);
-    let body = positions::after_list(program, at, positions::QUERY_BYTES);
-    let mut written = [0u64; 2];
-    let _ = writes::stmt_writes(&program, depth, body, &mut written);
-    let named = lists::list_roles(program, count, list);
-    let reading = judge::meet_of(program, table, false, written[0], written[1]);
-    let trust = judge::meet_of(program, table, true, written[0], written[1]);
-    let free = judge::held_number(
-        reading,
-        trust,
-        around[around::READERS] | readers,
-        around[around::TRUSTERS] | trusters,
-        named | asked,
-    );
-    *inside = [
-        1,
-        list as u64,
-        bytes::wide(count) as u64,
-        named,
-        written[0],
-        written[1],
-        reading.roles,
-        reading.watchers,
-        trust.roles,
-        trust.watchers,
-        0,
-        0,
-        free as u64,
-    ];
-}
 
 // Where no statement stands any answer is right.
 pub fn check_stmt(
@@ -179,7 +47,7 @@ pub fn check_stmt(
     };
     match code {
         Statement::Skip => positions::ahead(*program, at, 1) as u64,
-        Statement::Assign => check_assign(program, table, readers, trusters, asked, at),
+        Statement::Assign => simple::check_assign(program, table, readers, trusters, asked, at),
         Statement::Block => check_block(
             policy,
             program,
@@ -224,7 +92,15 @@ pub fn check_stmt(
             depth,
             at,
         ),
-        Statement::Update => check_update(policy, program, around, readers, trusters, asked, at),
+        Statement::Update => simple::check_update(
+            policy,
+            program,
+            around,
+            readers,
+            trusters,
+            asked,
+            at,
+        ),
         Statement::Transaction => check_transaction(
             policy,
             program,
@@ -610,7 +486,7 @@ fn check_transaction(
     let inner = depth - 1;
     let body = positions::after_list(*program, at, positions::QUERY_BYTES);
     let mut inside = [0u64; around::WORDS];
-    enter(
+    enter::enter(
         *program,
         table,
         around,

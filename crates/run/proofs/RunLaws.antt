@@ -24,9 +24,9 @@ use Rattle.model.proofs.FlowParts.{accepted-program}
 use Rattle.compile.specs.Represents.{Blank, Compiles}
 use Rattle.tracked.specs.Live.{atomWords}
 use Rattle.tracked.specs.Index.{indexWords, Tracked}
-use Rattle.flow.specs.declared.verdict.Verdict.{Verdict}
-use Rattle.flow.specs.declared.verdict.Verdict.the-variants.{Fine, Refused}
-use Rattle.flow.specs.Verdict.{verdictOf}
+use Rattle.verdict.specs.declared.verdict.Verdict.{Verdict}
+use Rattle.verdict.specs.declared.verdict.Verdict.the-variants.{Fine, Refused}
+use Rattle.verdict.specs.Verdict.{verdictOf}
 use Rattle.run.specs.declared.run.Answer.{Answer}
 use Rattle.turn.specs.declared.fuel.Stop.{Stop}
 use Rattle.turn.specs.declared.fuel.Stop.the-variants.{Finished, Spent}

@@ -11,7 +11,6 @@ ghost use Rattle.model.specs.Calls.{ended, runAnswer};
 ghost use Rattle.machine.specs.Steps.{endingOf};
 ghost use Rattle.run.specs.Run.{Admitted, Rooms, Loadable, Loaded, Executed, Finishable};
 use code::words;
-use flow::verdict::Verdict;
 use machine::steps;
 use program::layout;
 use shared::bytes;
@@ -22,6 +21,7 @@ use tracked::index;
 use turn::fuel::Stop;
 use turn::memory;
 use update::change;
+use verdict::verdict::Verdict;
 
 // What a run gives: document 01's number, and the units.
 pub struct Answer {
@@ -248,7 +248,7 @@ fn run_accepted(policy: &mut [u8], program: &[u8], memory: &mut [u8], fuel: u32)
 pub fn run(policy: &mut [u8], program: &[u8], memory: &mut [u8], fuel: u32) -> Answer
     ensures { λ r. ⌜ ended (r .number) (r .units) (now (policy .exit)) (now (memory .exit)) ≡ runAnswer (now (policy .entry)) (now (program .entry)) (now (memory .entry)) fuel ⌝ }
 {
-    let verdict = flow::verdict::program_verdict(policy, program);
+    let verdict = verdict::verdict::program_verdict(policy, program);
     match verdict {
         Verdict::Fine => run_accepted(policy, program, memory, fuel),
         Verdict::Refused(k, _) => refusal(k),

@@ -6,9 +6,9 @@ use Rattle.model.specs.Number.{fine, refused, numberOf}
 use Rattle.model.specs.Flow.{part, programVerdict, transactionPart}
 use Rattle.model.specs.Calls.{located, locate, body, bodyOf, partBytes}
 use Rattle.model.proofs.Bodies.{transaction-none}
-use Rattle.flow.specs.declared.verdict.Verdict.{Verdict as Answer}
-use Rattle.flow.specs.declared.verdict.Verdict.the-variants.{Fine, Refused}
-use Rattle.flow.specs.Verdict.{verdictOf}
+use Rattle.verdict.specs.declared.verdict.Verdict.{Verdict as Answer}
+use Rattle.verdict.specs.declared.verdict.Verdict.the-variants.{Fine, Refused}
+use Rattle.verdict.specs.Verdict.{verdictOf}
 
 module _ (s p : List ℕ) (a : Answer) (h : verdictOf a ≡ programVerdict s p) where
   module _ (e : a ≡ Fine) where

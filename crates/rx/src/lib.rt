@@ -1,5 +1,5 @@
 // The public face: the calls of document 01 for C and Rust, declared in include/rx.h. Each takes every input.
-// Rattle callers have policy::check::policy_number, meaning::least::meaning_of, flow::verdict::program_verdict,
+// Rattle callers have policy::check::policy_number, meaning::least::meaning_of, verdict::verdict::program_verdict,
 // run::run::run and transaction_body below, of which these are the exports. What no export can say stands last: that two runs
 // leak nothing (`two_runs`).
 ghost use mathlib.Core.Path.{_≡_};
@@ -9,9 +9,9 @@ ghost use Rattle.model.specs.Meaning.{answer, meaningOf};
 ghost use Rattle.model.specs.Flow.{programVerdict, transactionPart};
 ghost use Rattle.model.specs.Calls.{located, placeAnswer, body, transactionAnswer, partBytes, ended, runAnswer};
 ghost use Rattle.model.specs.Claim.{Claim};
-use flow::verdict::Verdict;
 use run::run::Answer;
 use shared::number;
+use verdict::verdict::Verdict;
 
 // The number 0 to 6 of any bytes as a policy.
 #[no_mangle]
@@ -36,7 +36,7 @@ pub extern "C" fn rx_meaning(policy: &[u8], role: u32, bits: &mut u32) -> u32
 pub extern "C" fn rx_program(policy: &[u8], program: &[u8]) -> u32
     ensures { λ r. ⌜ r ≡ numberOf (programVerdict (now (policy .entry)) (now (program .entry))) ⌝ }
 {
-    let verdict = flow::verdict::program_verdict(policy, program);
+    let verdict = verdict::verdict::program_verdict(policy, program);
     match verdict {
         Verdict::Fine => number::ACCEPTED,
         Verdict::Refused(k, _) => k,
@@ -48,7 +48,7 @@ pub extern "C" fn rx_program(policy: &[u8], program: &[u8]) -> u32
 pub extern "C" fn rx_place(policy: &[u8], program: &[u8], place: &mut usize) -> u32
     ensures { λ r. ⌜ located r (now (place .exit)) ≡ placeAnswer (now (policy .entry)) (now (program .entry)) ⌝ }
 {
-    let verdict = flow::verdict::program_verdict(policy, program);
+    let verdict = verdict::verdict::program_verdict(policy, program);
     match verdict {
         Verdict::Fine => {
             *place = 0;
@@ -73,7 +73,7 @@ pub extern "C" fn rx_transaction(
 ) -> u32
     ensures { λ r. ⌜ body r (now (start .exit)) (now (length .exit)) ≡ transactionAnswer (now (policy .entry)) (now (program .entry)) k ⌝ }
 {
-    let verdict = flow::verdict::program_verdict(policy, program);
+    let verdict = verdict::verdict::program_verdict(policy, program);
     match verdict {
         Verdict::Fine => {
             let span = transactions::span::body_span(policy, program, k as usize);
@@ -93,7 +93,7 @@ pub extern "C" fn rx_transaction(
 pub fn transaction_body<'a>(policy: &[u8], program: &'a [u8], k: usize) -> &'a [u8]
     ensures { λ r. ⌜ now r ≡ partBytes (now (program .entry)) (transactionPart (now (policy .entry)) (now (program .entry)) k) ⌝ }
 {
-    let Verdict::Fine = flow::verdict::program_verdict(policy, program) else {
+    let Verdict::Fine = verdict::verdict::program_verdict(policy, program) else {
         return transactions::span::part_of(program, 0, 0);
     };
     let span = transactions::span::body_span(policy, program, k);

@@ -36,9 +36,6 @@ use Rattle.flow.proofs.check.+check_block+check_branches+check_held+che
 use Rattle.flow.proofs.check.check_while.Reads as check-while
 use Rattle.flow.proofs.check.check_while.Kinds as check-while-kinds
 use Rattle.flow.proofs.check.+check_block+check_branches+check_held+check_if+check_learnt+check_pair+check_query+check_stmt+check_transaction+check_while.Lts-check_while as check-while-lts
-use Rattle.flow.proofs.check.check_assign.Reads as check-assign-reads
-use Rattle.flow.proofs.check.check_update.Reads as check-update-reads
-use Rattle.flow.proofs.check.enter.Reads as enter-reads
 use Rattle.context.proofs.around.count_of.Reads as count-of-reads
 use Rattle.context.proofs.around.is_free.Reads as is-free-reads
 use Rattle.context.proofs.around.is_inside.Reads as is-inside-reads
@@ -56,6 +53,9 @@ use Rattle.gathered.proofs.positions.statement_at.Reads as statement-at-reads
 use Rattle.order.proofs.learn.learn.Reads as learn-reads
 use Rattle.policy.proofs.rows.roles_of.Reads as roles-of-reads
 use Rattle.program.proofs.answer.refused.Reads as refused-reads
+use Rattle.rules.proofs.enter.enter.Reads as enter-reads
+use Rattle.rules.proofs.simple.check_assign.Reads as check-assign-reads
+use Rattle.rules.proofs.simple.check_update.Reads as check-update-reads
 use Rattle.shared.proofs.bytes.byte_at.Reads as byte-at-reads
 use Rattle.flow.proofs.check.+check_block+check_branches+check_held+check_if+check_learnt+check_pair+check_query+check_stmt+check_transaction+check_while.{
   statement,

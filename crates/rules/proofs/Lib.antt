@@ -1,0 +1,3 @@
+pub mod StandsLaws
+mod SimpleLaws
+mod EnterLaws
