@@ -9,7 +9,7 @@ ghost use Rattle.model.specs.Meaning.{answer, meaningOf};
 ghost use Rattle.model.specs.Flow.{programVerdict, transactionPart};
 ghost use Rattle.model.specs.Calls.{located, placeAnswer, body, transactionAnswer, partBytes, ended, runAnswer};
 ghost use Rattle.model.specs.Claim.{Claim};
-use run::run::Answer;
+use execution::execute::Answer;
 use shared::number;
 use verdict::verdict::Verdict;
 

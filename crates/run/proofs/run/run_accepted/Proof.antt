@@ -20,8 +20,4 @@ run-accepted-spec =
     (λ c κs. search (needs, refusals))
     (λ c. search (needs, refusals))
     (λ c. search (needs, refusals))
-    (λ c. search (needs, refusals))
-    (λ c κs. search (needs, refusals))
-    (λ c. search (needs, refusals))
-    (λ c. search (needs, refusals))
     (λ c. search (needs, refusals)))

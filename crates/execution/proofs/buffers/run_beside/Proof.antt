@@ -1,7 +1,7 @@
-use Rattle.run.proofs.RunLaws.{besides}
+use Rattle.execution.proofs.BufferLaws.{besides}
 use borrow.Author.Needs.{needs}
-use Rattle.run.proofs.run.run_beside.Statement.{statement}
-use Rattle.run.proofs.run.run_beside.Tie as tie
+use Rattle.execution.proofs.buffers.run_beside.Statement.{statement}
+use Rattle.execution.proofs.buffers.run_beside.Tie as tie
 
 pub run-beside-spec : {M : Type 1} → statement M
 run-beside-spec =

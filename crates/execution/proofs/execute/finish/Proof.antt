@@ -1,7 +1,7 @@
-use Rattle.run.proofs.RunLaws.{finishing}
+use Rattle.execution.proofs.ExecuteLaws.{finishing}
 use borrow.Author.Needs.{needs}
-use Rattle.run.proofs.run.finish.Statement.{statement}
-use Rattle.run.proofs.run.finish.Tie as tie
+use Rattle.execution.proofs.execute.finish.Statement.{statement}
+use Rattle.execution.proofs.execute.finish.Tie as tie
 
 pub finish-spec : {M : Type 1} → statement M
 finish-spec =

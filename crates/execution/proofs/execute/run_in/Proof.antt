@@ -1,7 +1,7 @@
-use Rattle.run.proofs.RunLaws.{running}
+use Rattle.execution.proofs.ExecuteLaws.{running}
 use borrow.Author.Needs.{needs}
-use Rattle.run.proofs.run.run_in.Statement.{statement}
-use Rattle.run.proofs.run.run_in.Tie as tie
+use Rattle.execution.proofs.execute.run_in.Statement.{statement}
+use Rattle.execution.proofs.execute.run_in.Tie as tie
 
 pub run-in-spec : {M : Type 1} → statement M
 run-in-spec =

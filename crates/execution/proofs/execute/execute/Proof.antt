@@ -1,7 +1,7 @@
-use Rattle.run.proofs.RunLaws.{executing, run-executed}
+use Rattle.execution.proofs.ExecuteLaws.{executing, run-executed}
 use borrow.Author.Needs.{needs}
-use Rattle.run.proofs.run.execute.Statement.{statement}
-use Rattle.run.proofs.run.execute.Tie as tie
+use Rattle.execution.proofs.execute.execute.Statement.{statement}
+use Rattle.execution.proofs.execute.execute.Tie as tie
 
 pub execute-spec : {M : Type 1} → statement M
 execute-spec =

@@ -1,7 +1,7 @@
-use Rattle.run.proofs.RunLaws.{loading}
+use Rattle.execution.proofs.ExecuteLaws.{loading}
 use borrow.Author.Needs.{needs}
-use Rattle.run.proofs.run.load.Statement.{statement}
-use Rattle.run.proofs.run.load.Tie as tie
+use Rattle.execution.proofs.execute.load.Statement.{statement}
+use Rattle.execution.proofs.execute.load.Tie as tie
 
 pub load-spec : {M : Type 1} → statement M
 load-spec =

@@ -1,0 +1,2 @@
+mod ExecuteLaws
+mod BufferLaws
