@@ -2,7 +2,6 @@
 ghost use mathlib.Core.Path.{_≡_};
 ghost use Prim.Native.Nat.{_+_, _^_, _<_};
 ghost use lib.ListN.{length};
-ghost use Rattle.model.specs.Sets.{has};
 ghost use Rattle.model.specs.Policy.{roles, members, takes, Accepted};
 ghost use Rattle.model.specs.Meaning.{meanings, meaning, answer, meaningOf};
 ghost use Rattle.shared.specs.Words.{United};

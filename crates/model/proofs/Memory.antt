@@ -17,11 +17,6 @@ use Rattle.model.proofs.Least.{column-length, column-at}
 abbrev pub AllBelow : ℕ → List ℕ → Type 0
 AllBelow top s = (i : ℕ) → i < length s → getD s i 0 < top
 
-pub memory-length : (vs : List ℕ) → length (memoryOf vs) ≡ 4 * length vs
-unfolding memoryOf
-memory-length [] = refl
-memory-length (v ∷ vs) = let e = memory-length vs in omega arith
-
 -- behind four bytes: what stood at a value's place, and what is put there, is one place on
 module _ (a b c d : ℕ) (s : List ℕ) (x : ℕ) where
   byte-behind : (k : ℕ) → byte (a ∷ b ∷ c ∷ d ∷ s) (4 * suc x + k) ≡ byte s (4 * x + k)
@@ -174,11 +169,6 @@ stored-start w to = refl
 pub stored-more : (w to t u : List ℕ) (i : ℕ) → t ≡ stored w to i → u ≡ put t (4 * i) 4 (getD w i 0) → u ≡ stored w to (i + 1)
 unfolding stored
 stored-more w to t u i e h = let k : i + 1 ≡ suc i = omega arith in h ∙ rw (e, k)
-
-pub stored-length : (w to : List ℕ) (n : ℕ) → length (stored w to n) ≡ length to
-unfolding stored
-stored-length w to zero = refl
-stored-length w to (suc n) = length-put (stored w to n) (4 * n) 4 (getD w n 0) ∙ stored-length w to n
 
 -- the first value takes the first four bytes, the others what is behind them
 stored-behind : (v a b c d : ℕ) (w to : List ℕ) (n : ℕ) → v < 2 ^ 32

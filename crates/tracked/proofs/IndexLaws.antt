@@ -4,7 +4,7 @@ use mathlib.Core.Path.{_≡_, refl, sym, ap, _∙_}
 use Prim.Native.Nat.{ℕ, _+_, _-_, _*_, _%_, _^_, _<_, _≤_}
 use mathlib.Core.Logic.{_⊎_, inl, inr, ⊎-elim}
 use mathlib.Core.List.{List}
-use mathlib.Core.Bool.{Bool, true, false, true≢false}
+use mathlib.Core.Bool.{Bool, true, false}
 use native.Mathlib.Omega.{arith}
 use native.Mathlib.Decide.{ℕ-discrete}
 use mir.Val.{Fits}
@@ -99,13 +99,6 @@ module _ (a i : ℕ) where
       leaves : (b : Bool) → has a j ≡ false → has (placed b a i) j ≡ false
       leaves true f = not-in (with a i) j (λ h. ⊎-elim n (λ y. in-not a j y f) (with-has a i j h))
       leaves false f = not-in (without a i) j (λ h. in-not a j (without-has a i j h .0) f)
-
--- two truths are the same, or not
-pub same-or-not : (a b : Bool) → (a ≡ b) ⊎ (a ≡ b → ⊥)
-same-or-not true true = inl refl
-same-or-not true false = inr true≢false
-same-or-not false true = inr (λ e. true≢false (sym e))
-same-or-not false false = inl refl
 
 -- the words of one more role
 module _ (f : ℕ → ℕ) (from width n : ℕ) (w u : List ℕ) (h : Transposed f from width n w) where

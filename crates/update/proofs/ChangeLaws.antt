@@ -23,7 +23,7 @@ use Rattle.tracked.specs.Index.{movedAt, rewiredAt, Mirrored, Sifted, Tracked}
 use Rattle.settling.specs.Settle.{Settled}
 use Rattle.update.specs.Mutations.{Mutable, Mutated}
 use Rattle.update.specs.Listed.{Listing, HeldAt}
-use Rattle.update.specs.Change.{isAwaited, Prepared, Judged, CarriedOut}
+use Rattle.update.specs.Change.{isAwaited, Judged, CarriedOut}
 use Rattle.tracked.proofs.AtomLaws.{live-holds}
 use Rattle.settling.proofs.SettleLaws.{tracked-long, tracked-atoms, tracked-few, settling-start, settling-atoms, settling-done, settled-already}
 use Rattle.tracked.proofs.TrackedLaws.{tracked-after}
@@ -54,6 +54,11 @@ module _ (s t w u i j : List ℕ) (h : Tracked s w i) (g : Tracked t u j) where
 
   pub same-index : length j ≡ length i
   same-index = tracked-long t u j g ∙ sym (tracked-long s w i h)
+
+-- what is tracked of a policy, and the sets are right where something is listed
+pub record Prepared (count : ℕ) (s atoms w : List ℕ) : Type 0 where
+  pub tracked : Tracked s atoms w
+  pub settled : 0 < count → Settled s atoms w
 
 -- what is tracked when the mutations have been made
 pub made-tracked : (p s t w i i₁ : List ℕ) (at count : ℕ) → Mutated p s at i t i₁ → Prepared count s w i → Tracked t w i₁

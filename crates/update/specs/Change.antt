@@ -1,6 +1,6 @@
 -- What carrying out an update gives.
 use mathlib.Core.Path.{_≡_}
-use Prim.Native.Nat.{ℕ, _+_, _<_}
+use Prim.Native.Nat.{ℕ, _+_}
 use mathlib.Core.List.{List}
 use mathlib.Core.Bool.{Bool, not, _&&_}
 use lib.Dec.{eqb}
@@ -14,16 +14,10 @@ use Rattle.model.specs.Program.{got, readMany, readQuery, readMutation}
 use Rattle.model.specs.Run.{mutateAll, broken}
 use Rattle.tracked.specs.Live.{Live}
 use Rattle.tracked.specs.Index.{movedAt, rewiredAt, Tracked}
-use Rattle.settling.specs.Settle.{Settled}
 
 -- whether the sets are asked for and may be out of date: something is listed, and a word was touched
 unfoldable pub isAwaited : ℕ → List ℕ → Bool
 isAwaited count w = not (eqb count 0) && not (eqb (bitOr (getD w movedAt 0) (getD w rewiredAt 0)) 0)
-
--- what is tracked of a policy, and the sets are right where something is listed
-pub record Prepared (count : ℕ) (s atoms w : List ℕ) : Type 0 where
-  pub tracked : Tracked s atoms w
-  pub settled : 0 < count → Settled s atoms w
 
 -- t is the policy s after the update whose code stands at a position, with what is tracked of it; and whether one of the
 -- queries listed at another position held under s and fails under t

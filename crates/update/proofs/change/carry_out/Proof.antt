@@ -1,7 +1,6 @@
 use denote.Ref.{now}
 use mathlib.Core.Logic.{⊎-elim}
-use Rattle.update.specs.Change.{Prepared}
-use Rattle.update.proofs.ChangeLaws.{prepared-settled, prepared-still, made-tracked, same-atoms, same-index, carried-still, carries}
+use Rattle.update.proofs.ChangeLaws.{Prepared, prepared-settled, prepared-still, made-tracked, same-atoms, same-index, carried-still, carries}
 use borrow.Author.Needs.{needs}
 use Rattle.update.proofs.change.carry_out.Statement.{statement}
 use Rattle.update.proofs.change.carry_out.Tie as tie
