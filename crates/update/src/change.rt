@@ -28,7 +28,7 @@ pub fn track(policy: &[u8], atoms: &mut [u32], index: &mut [u64])
 
 // Whether the sets are asked for and may be out of date: something is listed, and something was touched. Mostly not, and then an
 // update passes the policy on to nothing but its mutations: with this test behind the call that settles, updates of one mutation
-// took a seventh longer.
+// took a tenth to a seventh longer.
 fn is_awaited(count: u8, index: &[u64]) -> bool
     requires { ⌜ length (now index) ≡ indexWords ⌝ }
     ensures { λ r. ⌜ r ≡ isAwaited count (now (index .entry)) ⌝ }
