@@ -230,16 +230,8 @@ skip-checked s p t c d at q code e around known C x end st h fit =
     let qe : q ≡ end = e ∙ ahead-is p at 1 (omega (arith, stmt-there p (principals s) (roles s) (variables p) d at h)) ∙ sym (u .1) in
     rw (u .0, qe) (position-told end (low-end st d at h))
 
--- a skip after the first of two
-module _ (s p : List ℕ) (d at o m : ℕ) (i : Bool) (low : o < placeLimit) (e : i ≡ eqb (byte p o) 0) (h : i ≡ true) (k : m ≡ ahead p o 1) where
-  after-first : (t : List ℕ) (c : Context) → CheckedAt s p t c d o m
-  after-first t c = skip-checked s p t c d o m (eqb-true (byte p o) 0 (sym e ∙ h)) k
-
-  pub pair-skip : (t : List ℕ) (c : Context) → CheckedAt s p t c d at o → PairAt s p t c d at m
-  pair-skip t c f = pair-second s p t c d at o f m low (after-first t c)
-
-  pub branches-skip : (k t : List ℕ) (b c : Context) → CheckedAt s p k b d at o → BothAt s p k t b c d at m
-  branches-skip k t b c f = branches-second s p k t b c d at o f m low (after-first t c)
+pub branch-skip : (s p t : List ℕ) (c : Context) (d at q : ℕ) (i : Bool) → i ≡ eqb (byte p at) 0 → i ≡ true → q ≡ ahead p at 1 → CheckedAt s p t c d at q
+branch-skip s p t c d at q i e h k = skip-checked s p t c d at q (eqb-true (byte p at) 0 (sym e ∙ h)) k
 
 -- a statement, by its code
 module _ (s p t : List ℕ) (c : Context) (d at : ℕ) where
@@ -300,7 +292,7 @@ module _ (s p t : List ℕ) (c : Context) (d at : ℕ) where
     unfolding Blocking
     block-skip m b some e h k around known C x end code st i fit =
         let low : m < placeLimit = low-next around known C x end code st i fit in
-        block-more some m (skip-checked s p t c (d - 1) next m (eqb-true (byte p next) 0 (sym e ∙ h)) k) low around known C x end code st i fit
+        block-more some m (branch-skip s p t c (d - 1) next m b e h k) low around known C x end code st i fit
       where
         low-next : (around : Surroundings) (known : List ModelQuery) (C : Side → List Atom) (x : Stmt) (end : ℕ) → byte p at ≡ 2 → Stands s p t c around known C → StmtAt s p d at x end → StmtFits s p around x → m < placeLimit
         low-next around known C x end code st i fit =

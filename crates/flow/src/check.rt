@@ -115,6 +115,50 @@ pub fn check_stmt(
     }
 }
 
+// A statement of a block. Assignments and updates come in rows; they are checked here, since the call that finds out which kind
+// a statement is costs as much as a small one.
+fn check_part(
+    policy: &&[u8],
+    program: &&[u8],
+    table: &[u64; table::TABLE_WORDS],
+    around: &[u64; around::WORDS],
+    readers: u64,
+    trusters: u64,
+    asked: u64,
+    depth: u8,
+    at: usize,
+) -> u64
+    requires { ⌜ Ready (now (now policy)) (now table) (now around) ⌝ }
+    ensures { λ r. ⌜ CheckedAt (now (now (policy .entry))) (now (now (program .entry))) (now (table .entry)) (contextOf (now (around .entry)) readers trusters asked) depth at r ⌝ }
+{
+    let StatementOf::Is(code) = positions::statement_at(*program, at) else {
+        return answer::refused(number::PROGRAM_CODE, at);
+    };
+    match code {
+        Statement::Assign => simple::check_assign(program, table, readers, trusters, asked, at),
+        Statement::Update => simple::check_update(
+            policy,
+            program,
+            around,
+            readers,
+            trusters,
+            asked,
+            at,
+        ),
+        _ => check_stmt(
+            policy,
+            program,
+            table,
+            around,
+            readers,
+            trusters,
+            asked,
+            depth,
+            at,
+        ),
+    }
+}
+
 // A skip is passed over here, since a call would cost more than all else of it.
 fn check_block(
     policy: &&[u8],
@@ -138,7 +182,7 @@ fn check_block(
             next = positions::ahead(*program, next, 1);
             left -= 1;
         } else {
-            let one = check_stmt(
+            let one = check_part(
                 policy,
                 program,
                 table,
@@ -160,7 +204,38 @@ fn check_block(
     next as u64
 }
 
-// Two statements, one after the other. The second is often a skip, which is passed over here as in a block.
+// A branch of an if or a query. It is often a skip, which is passed over here as in a block.
+fn check_branch(
+    policy: &&[u8],
+    program: &&[u8],
+    table: &[u64; table::TABLE_WORDS],
+    around: &[u64; around::WORDS],
+    readers: u64,
+    trusters: u64,
+    asked: u64,
+    depth: u8,
+    at: usize,
+) -> u64
+    requires { ⌜ Ready (now (now policy)) (now table) (now around) ⌝ }
+    ensures { λ r. ⌜ CheckedAt (now (now (policy .entry))) (now (now (program .entry))) (now (table .entry)) (contextOf (now (around .entry)) readers trusters asked) depth at r ⌝ }
+{
+    if positions::is_skip(*program, at) {
+        return positions::ahead(*program, at, 1) as u64;
+    }
+    check_stmt(
+        policy,
+        program,
+        table,
+        around,
+        readers,
+        trusters,
+        asked,
+        depth,
+        at,
+    )
+}
+
+// Two statements, one after the other.
 fn check_pair(
     policy: &&[u8],
     program: &&[u8],
@@ -175,7 +250,7 @@ fn check_pair(
     requires { ⌜ Ready (now (now policy)) (now table) (now around) ⌝ }
     ensures { λ r. ⌜ PairAt (now (now (policy .entry))) (now (now (program .entry))) (now (table .entry)) (contextOf (now (around .entry)) readers trusters asked) depth at r ⌝ }
 {
-    let one = check_stmt(
+    let one = check_branch(
         policy,
         program,
         table,
@@ -190,10 +265,7 @@ fn check_pair(
         return one;
     }
     let mid = one as usize;
-    if positions::is_skip(*program, mid) {
-        return positions::ahead(*program, mid, 1) as u64;
-    }
-    check_stmt(
+    check_branch(
         policy,
         program,
         table,
@@ -434,7 +506,7 @@ fn check_branches(
     requires { ⌜ (Ready (now (now policy)) (now learnt) (now known)) × (Ready (now (now policy)) (now table) (now around)) ⌝ }
     ensures { λ r. ⌜ BothAt (now (now (policy .entry))) (now (now (program .entry))) (now (learnt .entry)) (now (table .entry)) (contextOf (now (known .entry)) readers trusters asked) (contextOf (now (around .entry)) readers trusters asked) depth at r ⌝ }
 {
-    let one = check_stmt(
+    let one = check_branch(
         policy,
         program,
         learnt,
@@ -449,10 +521,7 @@ fn check_branches(
         return one;
     }
     let other = one as usize;
-    if positions::is_skip(*program, other) {
-        return positions::ahead(*program, other, 1) as u64;
-    }
-    check_stmt(
+    check_branch(
         policy,
         program,
         table,

@@ -104,6 +104,9 @@ skip-writes p d at next w code q two P R vars fit x end h =
     let u = skip-parts p P R vars d at h code in
     (q ∙ ahead-is p at 1 (omega (arith, stmt-there p P R vars d at h)) ∙ sym (u .1), rw (u .0) (added-none w two))
 
+pub branch-skip : (p : List ℕ) (d at next : ℕ) (w : List ℕ) (b : Bool) → b ≡ eqb (byte p at) 0 → b ≡ true → next ≡ ahead p at 1 → length w ≡ 2 → WritesAt p d at w w next
+branch-skip p d at next w b e t q two = skip-writes p d at next w (eqb-true (byte p at) 0 (sym e ∙ t)) q two
+
 module _ (p : List ℕ) (d at : ℕ) where
   module _ (w : List ℕ) where
     pub gathering-start : (left next : ℕ) → left ≡ byte p at → next ≡ ahead p at 1 → Gathering p d at w left next w
@@ -125,7 +128,7 @@ module _ (p : List ℕ) (d at : ℕ) where
           }
 
       pub gathering-skip : (n : ℕ) (b : Bool) → 0 < left → b ≡ eqb (byte p next) 0 → b ≡ true → n ≡ ahead p next 1 → length v ≡ 2 → Gathering p d at w (left - 1) n v
-      gathering-skip n b some e t q two = gathering-more v n some (skip-writes p d next n v (eqb-true (byte p next) 0 (sym e ∙ t)) q two)
+      gathering-skip n b some e t q two = gathering-more v n some (branch-skip p d next n v b e t q two)
 
       pub gathering-done : left ≤ 0 → length v ≡ 2 → BlockWrites p d at w v next
       unfolding Gathering BlockWrites blockOf assigned mutated

@@ -17,7 +17,7 @@ use Rattle.program.specs.declared.codes.Statement.{Statement}
 use Rattle.program.specs.declared.codes.Statement.the-variants.{Skip, Assign, Block, If, While, Query, Update, Transaction}
 use Rattle.program.specs.declared.codes.StatementOf.{StatementOf}
 use Rattle.program.specs.declared.codes.StatementOf.the-variants.{Is, No}
-use Rattle.program.specs.Answer.{Reached, reached, stopped, placeLimit, told, endOf, readAssign, readUpdate, FindsSkip}
+use Rattle.program.specs.Answer.{Reached, reached, stopped, placeLimit, told, endOf, readAssign, readUpdate, FindsCode}
 use Rattle.program.specs.Codes.{statementOf}
 use Rattle.program.proofs.CodeLaws.{through}
 use Rattle.program.proofs.AnswerLaws.{position-told, tells, then-at, then-refused, then-last, then-end, then-same, pick-same, byte-there, byte-missing, many, many-next}
@@ -237,35 +237,53 @@ module _ (s : List ℕ) (P R v d at : ℕ) (f : d ≡ 0 → ⊥) where
         unfolding coded
         stmt-transaction place g i = rw (here, h, g) (i ∙ transaction-same s P R v (readStmt s P R v (d - 1)) at place (at + 1))
 
--- a skip that a block passes over
+-- a code that is looked for
+module _ (s : List ℕ) (d at code : ℕ) where
+  pub code-not : FindsCode s d at code false
+  unfolding FindsCode
+  code-not e = absurd (false≢true e)
+
+  pub code-is : (b : Bool) → (d ≡ 0 → ⊥) → at < length s → b ≡ eqb (byte s at) code → FindsCode s d at code b
+  unfolding FindsCode
+  code-is b f l e h = record { deep = f; there = l; is = eqb-true (byte s at) code (sym e ∙ h) }
+
+-- and is found
 module _ (s : List ℕ) (d at : ℕ) where
-  pub skip-not : FindsSkip s d at false
-  unfolding FindsSkip
-  skip-not e = absurd (false≢true e)
+  module _ (code : ℕ) (b : Bool) (f : FindsCode s d at code b) (h : b ≡ true) where
+    found-there : at < length s
+    unfolding FindsCode
+    found-there = f h .there
 
-  pub skip-is : (b : Bool) → (d ≡ 0 → ⊥) → at < length s → b ≡ eqb (byte s at) 0 → FindsSkip s d at b
-  unfolding FindsSkip
-  skip-is b f l e h = record { deep = f; there = l; code = eqb-true (byte s at) 0 (sym e ∙ h) }
+    pub found-low : length s < placeLimit → at + 1 < placeLimit
+    found-low l = omega (arith, found-there)
 
-  module _ (b : Bool) (f : FindsSkip s d at b) (h : b ≡ true) where
-    pub skip-there : at < length s
-    unfolding FindsSkip
-    skip-there = f h .there
-
-    pub skip-low : length s < placeLimit → at + 1 < placeLimit
-    skip-low l = omega (arith, skip-there)
-
+  -- a skip, which a block passes over
+  module _ (b : Bool) (f : FindsCode s d at 0 b) (h : b ≡ true) where
     pub skip-passed : (P R v i : ℕ) (r : Reached) → endOf (readMany (readStmt s P R v d) i at) ≡ r → 0 < i → endOf (readMany (readStmt s P R v d) (i - 1) (at + 1)) ≡ r
-    unfolding FindsSkip statementOf
+    unfolding FindsCode statementOf
     skip-passed P R v i r e l =
         let k = f h in
-        many-next (readStmt s P R v d) i at (at + 1) r e l (stmt-skip s P R v d at (k .deep) (k .there) (Is Skip) (rw (k .code)) Skip refl refl)
+        many-next (readStmt s P R v d) i at (at + 1) r e l (stmt-skip s P R v d at (k .deep) (k .there) (Is Skip) (rw (k .is)) Skip refl refl)
 
-    -- a branch that is one
+    -- and a branch that is one
     pub skip-branch : (P R v : ℕ) → length s < placeLimit → told (at + 1) ≡ endOf (readStmt s P R v d at)
-    unfolding FindsSkip statementOf
-    skip-branch P R v l = let k = f h in position-told (at + 1) (skip-low l) ∙ stmt-skip s P R v d at (k .deep) (k .there) (Is Skip) (rw (k .code)) Skip refl refl
+    unfolding FindsCode statementOf
+    skip-branch P R v l = let k = f h in position-told (at + 1) (found-low 0 b f h l) ∙ stmt-skip s P R v d at (k .deep) (k .there) (Is Skip) (rw (k .is)) Skip refl refl
 
-pub ruleset skips = (skip-not, skip-is, skip-low, skip-passed)
+  -- a block's assignment and update
+  module _ (P R v r : ℕ) (b : Bool) where
+    pub part-assign : FindsCode s d at 1 b → b ≡ true → told r ≡ endOf (readAssign s v (at + 1)) → told r ≡ endOf (readStmt s P R v d at)
+    unfolding FindsCode statementOf
+    part-assign f h e = let k = f h in stmt-assign s P R v d at (k .deep) (k .there) (Is Assign) (rw (k .is)) Assign refl r refl e
+
+    pub part-update : FindsCode s d at 6 b → b ≡ true → told r ≡ endOf (readUpdate s P R (at + 1)) → told r ≡ endOf (readStmt s P R v d at)
+    unfolding FindsCode statementOf
+    part-update f h e = let k = f h in stmt-update s P R v d at (k .deep) (k .there) (Is Update) (rw (k .is)) Update refl r refl e
+
+pub ruleset codes = (code-not, code-is)
+
+pub ruleset skips = (found-low, skip-passed)
+
+pub ruleset parts = (part-assign, part-update)
 
 pub ruleset statements = (stmt-deep, stmt-missing, stmt-unknown, stmt-skip, stmt-assign, stmt-block, stmt-if, stmt-while, stmt-query, stmt-update, stmt-transaction, tells)

@@ -4,7 +4,7 @@
 ghost use mathlib.Core.Path.{_≡_};
 ghost use Prim.Native.Nat.{_-_};
 ghost use Rattle.model.specs.Program.{readStmt, blockAt, ifAt, whileAt, queryAt, transactionAt};
-ghost use Rattle.program.specs.Answer.{told, Within, endOf, readAssign, readUpdate, FindsSkip};
+ghost use Rattle.program.specs.Answer.{told, Within, endOf, readAssign, readUpdate, FindsCode};
 use super::expressions;
 use program::answer;
 use program::atoms;
@@ -15,6 +15,13 @@ use program::entries;
 use program::entries::Entry;
 use shared::limit;
 use shared::number;
+
+// Codes of statements that are often many in a row.
+const SKIP: u8 = 0;
+
+const ASSIGN: u8 = 1;
+
+const UPDATE: u8 = 6;
 
 // Too deep is 14 before the code is read.
 pub fn read_stmt(program: &&[u8], principals: u8, roles: u8, vars: u8, depth: u8, at: usize) -> u64
@@ -56,9 +63,9 @@ fn read_assign(program: &&[u8], vars: u8, at: usize) -> u64
     expressions::read_expr(program, vars, limit::EXPRESSION_DEPTH, target as usize)
 }
 
-// Whether a skip, code 00, stands at a position with depth left for it.
-fn is_skip(program: &&[u8], depth: u8, at: usize) -> bool
-    ensures { λ r. ⌜ FindsSkip (now (now (program .entry))) depth at r ⌝ }
+// Whether a code stands at a position with depth left for a statement.
+fn is_code(program: &&[u8], depth: u8, at: usize, code: u8) -> bool
+    ensures { λ r. ⌜ FindsCode (now (now (program .entry))) depth at code r ⌝ }
 {
     if depth == 0 {
         return false;
@@ -66,7 +73,22 @@ fn is_skip(program: &&[u8], depth: u8, at: usize) -> bool
     if program.len() <= at {
         return false;
     }
-    program[at] == 0
+    program[at] == code
+}
+
+// A statement of a block, or a branch. Assignments and updates are many; they are read here, since the call that finds out which
+// kind a statement is costs as much as a small one: blocks of such take a seventh less.
+fn read_part(program: &&[u8], principals: u8, roles: u8, vars: u8, depth: u8, at: usize) -> u64
+    requires { ⌜ Within (now (now program)) at ⌝ }
+    ensures { λ r. ⌜ told r ≡ endOf (readStmt (now (now (program .entry))) principals roles vars depth at) ⌝ }
+{
+    if is_code(program, depth, at, ASSIGN) {
+        return read_assign(program, vars, at + 1);
+    }
+    if is_code(program, depth, at, UPDATE) {
+        return read_update(program, principals, roles, at + 1);
+    }
+    read_stmt(program, principals, roles, vars, depth, at)
 }
 
 // n, n statements. A skip is passed over here, since a call would cost more than all else of it.
@@ -80,11 +102,11 @@ fn read_block(program: &&[u8], principals: u8, roles: u8, vars: u8, depth: u8, a
     let mut left = program[at];
     let mut next = at + 1;
     while 0 < left {
-        if is_skip(program, depth, next) {
+        if is_code(program, depth, next, SKIP) {
             next += 1;
             left -= 1;
         } else {
-            let one = read_stmt(program, principals, roles, vars, depth, next);
+            let one = read_part(program, principals, roles, vars, depth, next);
             if answer::REFUSED <= one {
                 return one;
             }
@@ -100,10 +122,10 @@ fn read_branch(program: &&[u8], principals: u8, roles: u8, vars: u8, depth: u8, 
     requires { ⌜ Within (now (now program)) at ⌝ }
     ensures { λ r. ⌜ told r ≡ endOf (readStmt (now (now (program .entry))) principals roles vars depth at) ⌝ }
 {
-    if is_skip(program, depth, at) {
+    if is_code(program, depth, at, SKIP) {
         return (at + 1) as u64;
     }
-    read_stmt(program, principals, roles, vars, depth, at)
+    read_part(program, principals, roles, vars, depth, at)
 }
 
 // An expression, two statements.

@@ -46,15 +46,15 @@ unfoldable pub endOf : {A : Type 0} → Reading A → Reached
 endOf (got x next) = reached next
 endOf (bad number place) = stopped number place
 
--- a skip stands at a position, with depth left for it
-pub record SkipAt (s : List ℕ) (depth at : ℕ) : Type 0 where
+-- a code stands at a position, with depth left for a statement
+pub record CodeAt (s : List ℕ) (depth at code : ℕ) : Type 0 where
   pub deep : depth ≡ 0 → ⊥
   pub there : at < length s
-  pub code : byte s at ≡ 0
+  pub is : byte s at ≡ code
 
 -- r is true only then
-unfoldable pub FindsSkip : List ℕ → ℕ → ℕ → Bool → Type 0
-FindsSkip s depth at r = r ≡ true → SkipAt s depth at
+unfoldable pub FindsCode : List ℕ → ℕ → ℕ → ℕ → Bool → Type 0
+FindsCode s depth at code r = r ≡ true → CodeAt s depth at code
 
 -- Parts of the model's readings that have no name there.
 

@@ -1,41 +1,47 @@
 -- The cycle of checks: each return is the verdict of the tree that stands at the position, by a law for that return; the
 -- remaining depth falls, and where it stays each callee comes after its caller. A block: what is left of it decides.
 use Rattle.context.specs.Context.{contextOf}
-use Rattle.flow.proofs.CheckLaws.{Blocking, pair-first, pair-second, pair-skip, few-roles, ready-table, ready-held, ready-entered, branches-first, branches-second, branches-skip, held-both, learnt-none, learnt-both, block-start, block-done, block-refused, block-more, block-skip, if-checked, while-checked, query-outside, query-unlisted, query-free, query-known, query-listed, transaction-nested, transaction-body, stmt-none, stmt-unknown, stmt-skip, stmt-assign, stmt-update, stmt-coded}
+use Rattle.flow.proofs.CheckLaws.{Blocking, branch-skip, pair-first, pair-second, few-roles, ready-table, ready-held, ready-entered, branches-first, branches-second, held-both, learnt-none, learnt-both, block-start, block-done, block-refused, block-more, block-skip, if-checked, while-checked, query-outside, query-unlisted, query-free, query-known, query-listed, transaction-nested, transaction-body, stmt-none, stmt-unknown, stmt-skip, stmt-assign, stmt-update, stmt-coded}
 use borrow.Author.Needs.{needs}
 use Prim.Native.Nat.{ℕ, _<_, _+_, _*_}
 use borrow.Fn.Kinds.{In}
 use borrow.Fn.PlainCycle.{Measures, is, falls, and}
 use Rattle.flow.proofs.check.check_block.Reads as check-block
 use Rattle.flow.proofs.check.check_block.Kinds as check-block-kinds
-use Rattle.flow.proofs.check.+check_block+check_branches+check_held+check_if+check_learnt+check_pair+check_query+check_stmt+check_transaction+check_while.Lts-check_block as check-block-lts
+use Rattle.flow.proofs.check.+check_block+check_branch+check_branches+check_held+check_if+check_learnt+check_pair+check_part+check_query+check_stmt+check_transaction+check_while.Lts-check_block as check-block-lts
+use Rattle.flow.proofs.check.check_branch.Reads as check-branch
+use Rattle.flow.proofs.check.check_branch.Kinds as check-branch-kinds
+use Rattle.flow.proofs.check.+check_block+check_branch+check_branches+check_held+check_if+check_learnt+check_pair+check_part+check_query+check_stmt+check_transaction+check_while.Lts-check_branch as check-branch-lts
 use Rattle.flow.proofs.check.check_branches.Reads as check-branches
 use Rattle.flow.proofs.check.check_branches.Kinds as check-branches-kinds
-use Rattle.flow.proofs.check.+check_block+check_branches+check_held+check_if+check_learnt+check_pair+check_query+check_stmt+check_transaction+check_while.Lts-check_branches as check-branches-lts
+use Rattle.flow.proofs.check.+check_block+check_branch+check_branches+check_held+check_if+check_learnt+check_pair+check_part+check_query+check_stmt+check_transaction+check_while.Lts-check_branches as check-branches-lts
 use Rattle.flow.proofs.check.check_held.Reads as check-held
 use Rattle.flow.proofs.check.check_held.Kinds as check-held-kinds
-use Rattle.flow.proofs.check.+check_block+check_branches+check_held+check_if+check_learnt+check_pair+check_query+check_stmt+check_transaction+check_while.Lts-check_held as check-held-lts
+use Rattle.flow.proofs.check.+check_block+check_branch+check_branches+check_held+check_if+check_learnt+check_pair+check_part+check_query+check_stmt+check_transaction+check_while.Lts-check_held as check-held-lts
 use Rattle.flow.proofs.check.check_if.Reads as check-if
 use Rattle.flow.proofs.check.check_if.Kinds as check-if-kinds
-use Rattle.flow.proofs.check.+check_block+check_branches+check_held+check_if+check_learnt+check_pair+check_query+check_stmt+check_transaction+check_while.Lts-check_if as check-if-lts
+use Rattle.flow.proofs.check.+check_block+check_branch+check_branches+check_held+check_if+check_learnt+check_pair+check_part+check_query+check_stmt+check_transaction+check_while.Lts-check_if as check-if-lts
 use Rattle.flow.proofs.check.check_learnt.Reads as check-learnt
 use Rattle.flow.proofs.check.check_learnt.Kinds as check-learnt-kinds
-use Rattle.flow.proofs.check.+check_block+check_branches+check_held+check_if+check_learnt+check_pair+check_query+check_stmt+check_transaction+check_while.Lts-check_learnt as check-learnt-lts
+use Rattle.flow.proofs.check.+check_block+check_branch+check_branches+check_held+check_if+check_learnt+check_pair+check_part+check_query+check_stmt+check_transaction+check_while.Lts-check_learnt as check-learnt-lts
 use Rattle.flow.proofs.check.check_pair.Reads as check-pair
 use Rattle.flow.proofs.check.check_pair.Kinds as check-pair-kinds
-use Rattle.flow.proofs.check.+check_block+check_branches+check_held+check_if+check_learnt+check_pair+check_query+check_stmt+check_transaction+check_while.Lts-check_pair as check-pair-lts
+use Rattle.flow.proofs.check.+check_block+check_branch+check_branches+check_held+check_if+check_learnt+check_pair+check_part+check_query+check_stmt+check_transaction+check_while.Lts-check_pair as check-pair-lts
+use Rattle.flow.proofs.check.check_part.Reads as check-part
+use Rattle.flow.proofs.check.check_part.Kinds as check-part-kinds
+use Rattle.flow.proofs.check.+check_block+check_branch+check_branches+check_held+check_if+check_learnt+check_pair+check_part+check_query+check_stmt+check_transaction+check_while.Lts-check_part as check-part-lts
 use Rattle.flow.proofs.check.check_query.Reads as check-query
 use Rattle.flow.proofs.check.check_query.Kinds as check-query-kinds
-use Rattle.flow.proofs.check.+check_block+check_branches+check_held+check_if+check_learnt+check_pair+check_query+check_stmt+check_transaction+check_while.Lts-check_query as check-query-lts
+use Rattle.flow.proofs.check.+check_block+check_branch+check_branches+check_held+check_if+check_learnt+check_pair+check_part+check_query+check_stmt+check_transaction+check_while.Lts-check_query as check-query-lts
 use Rattle.flow.proofs.check.check_stmt.Reads as check-stmt
 use Rattle.flow.proofs.check.check_stmt.Kinds as check-stmt-kinds
-use Rattle.flow.proofs.check.+check_block+check_branches+check_held+check_if+check_learnt+check_pair+check_query+check_stmt+check_transaction+check_while.Lts-check_stmt as check-stmt-lts
+use Rattle.flow.proofs.check.+check_block+check_branch+check_branches+check_held+check_if+check_learnt+check_pair+check_part+check_query+check_stmt+check_transaction+check_while.Lts-check_stmt as check-stmt-lts
 use Rattle.flow.proofs.check.check_transaction.Reads as check-transaction
 use Rattle.flow.proofs.check.check_transaction.Kinds as check-transaction-kinds
-use Rattle.flow.proofs.check.+check_block+check_branches+check_held+check_if+check_learnt+check_pair+check_query+check_stmt+check_transaction+check_while.Lts-check_transaction as check-transaction-lts
+use Rattle.flow.proofs.check.+check_block+check_branch+check_branches+check_held+check_if+check_learnt+check_pair+check_part+check_query+check_stmt+check_transaction+check_while.Lts-check_transaction as check-transaction-lts
 use Rattle.flow.proofs.check.check_while.Reads as check-while
 use Rattle.flow.proofs.check.check_while.Kinds as check-while-kinds
-use Rattle.flow.proofs.check.+check_block+check_branches+check_held+check_if+check_learnt+check_pair+check_query+check_stmt+check_transaction+check_while.Lts-check_while as check-while-lts
+use Rattle.flow.proofs.check.+check_block+check_branch+check_branches+check_held+check_if+check_learnt+check_pair+check_part+check_query+check_stmt+check_transaction+check_while.Lts-check_while as check-while-lts
 use Rattle.context.proofs.around.count_of.Reads as count-of-reads
 use Rattle.context.proofs.around.is_free.Reads as is-free-reads
 use Rattle.context.proofs.around.is_inside.Reads as is-inside-reads
@@ -57,42 +63,48 @@ use Rattle.rules.proofs.enter.enter.Reads as enter-reads
 use Rattle.rules.proofs.simple.check_assign.Reads as check-assign-reads
 use Rattle.rules.proofs.simple.check_update.Reads as check-update-reads
 use Rattle.shared.proofs.bytes.byte_at.Reads as byte-at-reads
-use Rattle.flow.proofs.check.+check_block+check_branches+check_held+check_if+check_learnt+check_pair+check_query+check_stmt+check_transaction+check_while.{
+use Rattle.flow.proofs.check.+check_block+check_branch+check_branches+check_held+check_if+check_learnt+check_pair+check_part+check_query+check_stmt+check_transaction+check_while.{
   statement,
 }
-use Rattle.flow.proofs.check.+check_block+check_branches+check_held+check_if+check_learnt+check_pair+check_query+check_stmt+check_transaction+check_while.Tie.{
+use Rattle.flow.proofs.check.+check_block+check_branch+check_branches+check_held+check_if+check_learnt+check_pair+check_part+check_query+check_stmt+check_transaction+check_while.Tie.{
   close,
 }
 
 abbrev μ-check-block : Measures 6 check-block-kinds.ps ℕ
-μ-check-block κs a = 6 * a .1 .1 .1 .1 .1 .1 .1 .0
+μ-check-block κs a = 7 * a .1 .1 .1 .1 .1 .1 .1 .0
+
+abbrev μ-check-branch : Measures 6 check-branch-kinds.ps ℕ
+μ-check-branch κs a = 7 * a .1 .1 .1 .1 .1 .1 .1 .0 + 2
 
 abbrev μ-check-branches : Measures 8 check-branches-kinds.ps ℕ
-μ-check-branches κs a = 6 * a .1 .1 .1 .1 .1 .1 .1 .1 .1 .0 + 2
+μ-check-branches κs a = 7 * a .1 .1 .1 .1 .1 .1 .1 .1 .1 .0 + 3
 
 abbrev μ-check-held : Measures 7 check-held-kinds.ps ℕ
-μ-check-held κs a = 6 * a .1 .1 .1 .1 .1 .1 .1 .1 .0 + 3
+μ-check-held κs a = 7 * a .1 .1 .1 .1 .1 .1 .1 .1 .0 + 4
 
 abbrev μ-check-if : Measures 6 check-if-kinds.ps ℕ
-μ-check-if κs a = 6 * a .1 .1 .1 .1 .1 .1 .1 .0
+μ-check-if κs a = 7 * a .1 .1 .1 .1 .1 .1 .1 .0
 
 abbrev μ-check-learnt : Measures 6 check-learnt-kinds.ps ℕ
-μ-check-learnt κs a = 6 * a .1 .1 .1 .1 .1 .1 .1 .0 + 4
+μ-check-learnt κs a = 7 * a .1 .1 .1 .1 .1 .1 .1 .0 + 5
 
 abbrev μ-check-pair : Measures 6 check-pair-kinds.ps ℕ
-μ-check-pair κs a = 6 * a .1 .1 .1 .1 .1 .1 .1 .0 + 2
+μ-check-pair κs a = 7 * a .1 .1 .1 .1 .1 .1 .1 .0 + 3
+
+abbrev μ-check-part : Measures 6 check-part-kinds.ps ℕ
+μ-check-part κs a = 7 * a .1 .1 .1 .1 .1 .1 .1 .0 + 2
 
 abbrev μ-check-query : Measures 6 check-query-kinds.ps ℕ
-μ-check-query κs a = 6 * a .1 .1 .1 .1 .1 .1 .1 .0
+μ-check-query κs a = 7 * a .1 .1 .1 .1 .1 .1 .1 .0
 
 abbrev μ-check-stmt : Measures 6 check-stmt-kinds.ps ℕ
-μ-check-stmt κs a = 6 * a .1 .1 .1 .1 .1 .1 .1 .0 + 1
+μ-check-stmt κs a = 7 * a .1 .1 .1 .1 .1 .1 .1 .0 + 1
 
 abbrev μ-check-transaction : Measures 6 check-transaction-kinds.ps ℕ
-μ-check-transaction κs a = 6 * a .1 .1 .1 .1 .1 .1 .1 .0
+μ-check-transaction κs a = 7 * a .1 .1 .1 .1 .1 .1 .1 .0
 
 abbrev μ-check-while : Measures 6 check-while-kinds.ps ℕ
-μ-check-while κs a = 6 * a .1 .1 .1 .1 .1 .1 .1 .0
+μ-check-while κs a = 7 * a .1 .1 .1 .1 .1 .1 .1 .0
 
 abbrev check-block-at : ℕ → In 6 check-block-kinds.ps
 check-block-at t =
@@ -101,6 +113,12 @@ check-block-at t =
 abbrev check-block-below : ℕ → In 6 check-block-kinds.ps
 check-block-below t =
     and 6 check-block-kinds.ps (falls 6 check-block-kinds.ps _<_ μ-check-block t) check-block.Pre
+
+abbrev check-branch-at : ℕ → In 6 check-branch-kinds.ps
+check-branch-at t = and 6 check-branch-kinds.ps (is 6 check-branch-kinds.ps μ-check-branch t) check-branch.Pre
+
+abbrev check-branch-below : ℕ → In 6 check-branch-kinds.ps
+check-branch-below t = and 6 check-branch-kinds.ps (falls 6 check-branch-kinds.ps _<_ μ-check-branch t) check-branch.Pre
 
 abbrev check-branches-at : ℕ → In 8 check-branches-kinds.ps
 check-branches-at t =
@@ -153,6 +171,12 @@ abbrev check-pair-below : ℕ → In 6 check-pair-kinds.ps
 check-pair-below t =
     and 6 check-pair-kinds.ps (falls 6 check-pair-kinds.ps _<_ μ-check-pair t) check-pair.Pre
 
+abbrev check-part-at : ℕ → In 6 check-part-kinds.ps
+check-part-at t = and 6 check-part-kinds.ps (is 6 check-part-kinds.ps μ-check-part t) check-part.Pre
+
+abbrev check-part-below : ℕ → In 6 check-part-kinds.ps
+check-part-below t = and 6 check-part-kinds.ps (falls 6 check-part-kinds.ps _<_ μ-check-part t) check-part.Pre
+
 abbrev check-query-at : ℕ → In 6 check-query-kinds.ps
 check-query-at t =
     and 6 check-query-kinds.ps (is 6 check-query-kinds.ps μ-check-query t) check-query.Pre
@@ -199,16 +223,18 @@ check-block-Inv-loop policy program table around readers trusters asked depth at
 abbrev check-block-μ-loop : check-block-lts.MeasureT-loop
 check-block-μ-loop policy program table around readers trusters asked depth at inner left₀ next₀ left next = left
 
-pub +check-block+check-branches+check-held+check-if+check-learnt+check-pair+check-query+check-stmt+check-transaction+check-while-spec :
+pub +check-block+check-branch+check-branches+check-held+check-if+check-learnt+check-pair+check-part+check-query+check-stmt+check-transaction+check-while-spec :
     {M : Type 1} → statement M
-+check-block+check-branches+check-held+check-if+check-learnt+check-pair+check-query+check-stmt+check-transaction+check-while-spec =
++check-block+check-branch+check-branches+check-held+check-if+check-learnt+check-pair+check-part+check-query+check-stmt+check-transaction+check-while-spec =
     close
     μ-check-block
+    μ-check-branch
     μ-check-branches
     μ-check-held
     μ-check-if
     μ-check-learnt
     μ-check-pair
+    μ-check-part
     μ-check-query
     μ-check-stmt
     μ-check-transaction
@@ -220,8 +246,8 @@ pub +check-block+check-branches+check-held+check-if+check-learnt+check-pair+chec
       byte-at-reads.Learnt,
       is-skip-reads.Asked,
       is-skip-reads.Learnt,
-      check-stmt-below t,
-      check-stmt.Post,
+      check-part-below t,
+      check-part.Post,
     )
     (check-block-at t)
     check-block.Post
@@ -243,21 +269,27 @@ pub +check-block+check-branches+check-held+check-if+check-learnt+check-pair+chec
     (λ c. search needs)
     (λ c. search (needs, block-more))
     (λ c. search (needs, block-done)))
-    (λ t. check-branches-lts.spec (
-      check-stmt-below t,
-      check-stmt.Post,
+    (λ t. check-branch-lts.spec (
       is-skip-reads.Asked,
       is-skip-reads.Learnt,
       ahead-reads.Asked,
       ahead-reads.Learnt,
+      check-stmt-below t,
+      check-stmt.Post,
     )
+    (check-branch-at t)
+    check-branch.Post
+    (λ c κs. search needs)
+    (λ c κs. search needs)
+    (λ c. search (needs, branch-skip))
+    (λ c κs. search needs)
+    (λ c. search needs))
+    (λ t. check-branches-lts.spec
+    (check-branch-below t, check-branch.Post)
     (check-branches-at t)
     check-branches.Post
     (λ c κs. search needs)
     (λ c. search (needs, branches-first))
-    (λ c κs. search needs)
-    (λ c κs. search needs)
-    (λ c. search (needs, branches-skip))
     (λ c κs. search needs)
     (λ c. search (needs, branches-second)))
     (λ t. check-held-lts.spec (
@@ -312,23 +344,41 @@ pub +check-block+check-branches+check-held+check-if+check-learnt+check-pair+chec
     (λ c κs. search (needs, few-roles))
     (λ c κs. search (needs, ready-table))
     (λ c. search (needs, learnt-both)))
-    (λ t. check-pair-lts.spec (
-      check-stmt-below t,
-      check-stmt.Post,
-      is-skip-reads.Asked,
-      is-skip-reads.Learnt,
-      ahead-reads.Asked,
-      ahead-reads.Learnt,
-    )
+    (λ t. check-pair-lts.spec
+    (check-branch-below t, check-branch.Post)
     (check-pair-at t)
     check-pair.Post
     (λ c κs. search needs)
     (λ c. search (needs, pair-first))
     (λ c κs. search needs)
-    (λ c κs. search needs)
-    (λ c. search (needs, pair-skip))
-    (λ c κs. search needs)
     (λ c. search (needs, pair-second)))
+    (λ t. check-part-lts.spec (
+      statement-at-reads.Asked,
+      statement-at-reads.Learnt,
+      refused-reads.Asked,
+      refused-reads.Learnt,
+      check-assign-reads.Asked,
+      check-assign-reads.Learnt,
+      check-update-reads.Asked,
+      check-update-reads.Learnt,
+      check-stmt-below t,
+      check-stmt.Post,
+    )
+    (check-part-at t)
+    check-part.Post
+    (λ c κs. search needs)
+    (λ c. search needs)
+    (λ c. search needs)
+    (λ c κs. search needs)
+    (λ c. search (needs, stmt-unknown))
+    (λ c. search needs)
+    (λ c κs. search needs)
+    (λ c. search needs)
+    (λ c κs. search needs)
+    (λ c κs. search needs)
+    (λ c. search (needs, stmt-assign))
+    (λ c. search (needs, stmt-update))
+    (λ c. search needs))
     (λ t. check-query-lts.spec (
       is-inside-reads.Asked,
       is-inside-reads.Learnt,
