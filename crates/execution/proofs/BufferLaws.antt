@@ -30,18 +30,23 @@ blank n i = go (decLt i n)
 
 -- a copy of the policy, and the sets
 module _ (s p m : List ℕ) (vars fuel : ℕ) (h : Admitted s p m vars fuel) where
-  pub policy-short : length s ≤ 1415
+  policy-short : length s ≤ 1415
   unfolding policyBytes rowBytes rowAt
   policy-short = let f = accepted-facts s (h .begins .program .policy) in let l = f .long in let k = f .roles-fit in omega arith
 
-  pub copy-count : (w : List ℕ) → length w ≡ 1415 → length s ≡ length (take (length s) w)
-  copy-count w e = let l = policy-short in sym (length-take-le (length s) w (omega arith))
+  pub copy-large : (w : List ℕ) → length w ≡ 1415 → length s ≤ length w
+  copy-large w e = let l = policy-short in omega arith
 
-  pub beside-loadable : (code words w sets : List ℕ) → Rooms p code words → length w ≡ 1415 → length sets ≡ atomWords → Loadable s p m vars code words (take (length s) w) sets (zeros indexWords)
-  beside-loadable code words w sets r e f =
-      record { verdict = h .begins .verdict; vars-are = h .vars-are; memory-fits = rw (h .vars-are) (h .begins .memory-fits); rooms = r; same-length = copy-count w e; sets-many = f; index-blank = refl }
+  pub copy-count : (w : List ℕ) → length s ≤ length w → length s ≡ length (take (length s) w)
+  copy-count w l = sym (length-take-le (length s) w l)
 
-pub ruleset besides = (policy-short, copy-count, beside-loadable)
+  pub tracked-loadable : (code words w sets : List ℕ) → Rooms p code words → length s ≤ length w → length sets ≡ atomWords → Loadable s p m vars code words (take (length s) w) sets (zeros indexWords)
+  tracked-loadable code words w sets r l f =
+      record { verdict = h .begins .verdict; vars-are = h .vars-are; memory-fits = rw (h .vars-are) (h .begins .memory-fits); rooms = r; same-length = copy-count w l; sets-many = f; index-blank = refl }
+
+pub ruleset tracking = (copy-count, tracked-loadable)
+
+pub ruleset besides = (copy-large)
 
 -- room for the code and the words
 module _ (s p m : List ℕ) (vars fuel : ℕ) (h : Admitted s p m vars fuel) where

@@ -14,6 +14,9 @@ use tracked::index;
 // The longest policy.
 const POLICY_BYTES: usize = limit::HEAD_BYTES + limit::FIELD_BYTES * (limit::ROLES as usize);
 
+// A policy of four roles or fewer is copied into a small one: the smallest run takes a tenth less.
+const SMALL_POLICY: usize = limit::HEAD_BYTES + limit::FIELD_BYTES * 4;
+
 // A program of so many bytes or fewer runs in small buffers, so that a short run need not clear large ones.
 const SMALL_BYTES: usize = 128;
 
@@ -26,8 +29,8 @@ const SMALL_WORDS: usize = words::VARIABLES + SMALL_BYTES;
 
 const LARGE_WORDS: usize = words::VARIABLES + limit::PROGRAM_BYTES;
 
-// With room for the code and the words: a copy of the policy, and what is tracked of it.
-fn run_beside(
+// With room for the code, the words and a copy of the policy: what is tracked of the policy.
+fn run_tracked(
     policy: &mut [u8],
     program: &[u8],
     memory: &mut [u8],
@@ -35,12 +38,12 @@ fn run_beside(
     fuel: u32,
     code: &mut [u16],
     words: &mut [u32],
+    copy: &mut [u8],
 ) -> Answer
-    requires { ⌜ (Admitted (now policy) (now program) (now memory) vars fuel) × Rooms (now program) (now code) (now words) ⌝ }
+    requires { ⌜ (Admitted (now policy) (now program) (now memory) vars fuel) × Rooms (now program) (now code) (now words) × (length (now policy) ≤ length (now copy)) ⌝ }
     ensures { λ r. ⌜ ended (r .number) (r .units) (now (policy .exit)) (now (memory .exit)) ≡ runAnswer (now (policy .entry)) (now (program .entry)) (now (memory .entry)) fuel ⌝ }
 {
     let n = policy.len();
-    let mut copy = [0u8; POLICY_BYTES];
     let mut sets = [0u32; atoms::WORDS];
     let mut index = [0u64; index::WORDS];
     execute::run_in(
@@ -55,6 +58,27 @@ fn run_beside(
         &mut sets,
         &mut index,
     )
+}
+
+// With room for the code and the words: a copy of the policy, small where the policy is.
+fn run_beside(
+    policy: &mut [u8],
+    program: &[u8],
+    memory: &mut [u8],
+    vars: usize,
+    fuel: u32,
+    code: &mut [u16],
+    words: &mut [u32],
+) -> Answer
+    requires { ⌜ (Admitted (now policy) (now program) (now memory) vars fuel) × Rooms (now program) (now code) (now words) ⌝ }
+    ensures { λ r. ⌜ ended (r .number) (r .units) (now (policy .exit)) (now (memory .exit)) ≡ runAnswer (now (policy .entry)) (now (program .entry)) (now (memory .entry)) fuel ⌝ }
+{
+    if policy.len() <= SMALL_POLICY {
+        let mut copy = [0u8; SMALL_POLICY];
+        return run_tracked(policy, program, memory, vars, fuel, code, words, &mut copy);
+    }
+    let mut copy = [0u8; POLICY_BYTES];
+    run_tracked(policy, program, memory, vars, fuel, code, words, &mut copy)
 }
 
 fn run_small(policy: &mut [u8], program: &[u8], memory: &mut [u8], vars: usize, fuel: u32) -> Answer

@@ -8,6 +8,10 @@ run-beside-spec =
     tie.close
     (tie.spec
     (λ c. search (needs, besides))
+    (λ c κs. search (needs, besides))
+    (λ c. search (needs, besides))
+    (λ c. search (needs, besides))
+    (λ c. search (needs, besides))
     (λ c. search (needs, besides))
     (λ c. search (needs, besides))
     (λ c. search (needs, besides))
