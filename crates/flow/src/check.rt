@@ -18,6 +18,7 @@ use policy::rows;
 use program::answer;
 use program::codes::Statement;
 use program::codes::StatementOf;
+use program::skips;
 use rules::enter;
 use rules::simple;
 use shared::bytes;
@@ -159,7 +160,7 @@ fn check_part(
     }
 }
 
-// A skip is passed over here, since a call would cost more than all else of it.
+// A skip is passed over here, since a call would cost more than all else of it, and with it those behind it.
 fn check_block(
     policy: &&[u8],
     program: &&[u8],
@@ -179,8 +180,11 @@ fn check_block(
     let mut next = positions::ahead(*program, at, 2);
     while 0 < left {
         if positions::is_skip(*program, next) {
-            next = positions::ahead(*program, next, 1);
+            let rest = positions::ahead(*program, next, 1);
             left -= 1;
+            let more = skips::in_eights(*program, rest, left);
+            next = skips::after(*program, rest, more);
+            left -= more;
         } else {
             let one = check_part(
                 policy,

@@ -13,6 +13,8 @@ use program::codes::Statement;
 use program::codes::StatementOf;
 use program::entries;
 use program::entries::Entry;
+use program::skips;
+use shared::bytes;
 use shared::limit;
 use shared::number;
 
@@ -91,7 +93,7 @@ fn read_part(program: &&[u8], principals: u8, roles: u8, vars: u8, depth: u8, at
     read_stmt(program, principals, roles, vars, depth, at)
 }
 
-// n, n statements. A skip is passed over here, since a call would cost more than all else of it.
+// n, n statements. A skip is passed over here, since a call would cost more than all else of it, and with it those behind it.
 fn read_block(program: &&[u8], principals: u8, roles: u8, vars: u8, depth: u8, at: usize) -> u64
     requires { ⌜ Within (now (now program)) at ⌝ }
     ensures { λ r. ⌜ told r ≡ endOf (blockAt (now (now (program .entry))) principals roles vars (readStmt (now (now (program .entry))) principals roles vars depth) at) ⌝ }
@@ -105,6 +107,9 @@ fn read_block(program: &&[u8], principals: u8, roles: u8, vars: u8, depth: u8, a
         if is_code(program, depth, next, SKIP) {
             next += 1;
             left -= 1;
+            let more = skips::in_eights(*program, next, left);
+            next += bytes::wide(more) as usize;
+            left -= more;
         } else {
             let one = read_part(program, principals, roles, vars, depth, next);
             if answer::REFUSED <= one {

@@ -3,3 +3,4 @@ pub mod AnswerLaws
 pub mod AtomLaws
 mod EntryLaws
 mod LayoutLaws
+pub mod SkipLaws

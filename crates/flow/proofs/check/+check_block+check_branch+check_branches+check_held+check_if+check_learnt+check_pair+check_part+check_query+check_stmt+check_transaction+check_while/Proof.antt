@@ -1,7 +1,7 @@
 -- The cycle of checks: each return is the verdict of the tree that stands at the position, by a law for that return; the
 -- remaining depth falls, and where it stays each callee comes after its caller. A block: what is left of it decides.
 use Rattle.context.specs.Context.{contextOf}
-use Rattle.flow.proofs.CheckLaws.{Blocking, branch-skip, pair-first, pair-second, few-roles, ready-table, ready-held, ready-entered, branches-first, branches-second, held-both, learnt-none, learnt-both, block-start, block-done, block-refused, block-more, block-skip, if-checked, while-checked, query-outside, query-unlisted, query-free, query-known, query-listed, transaction-nested, transaction-body, stmt-none, stmt-unknown, stmt-skip, stmt-assign, stmt-update, stmt-coded}
+use Rattle.flow.proofs.CheckLaws.{Blocking, branch-skip, pair-first, pair-second, few-roles, ready-table, ready-held, ready-entered, branches-first, branches-second, held-both, learnt-none, learnt-both, block-start, block-done, block-refused, block-more, block-row, if-checked, while-checked, query-outside, query-unlisted, query-free, query-known, query-listed, transaction-nested, transaction-body, stmt-none, stmt-unknown, stmt-skip, stmt-assign, stmt-update, stmt-coded}
 use borrow.Author.Needs.{needs}
 use Prim.Native.Nat.{ℕ, _<_, _+_, _*_}
 use borrow.Fn.Kinds.{In}
@@ -59,6 +59,8 @@ use Rattle.gathered.proofs.positions.statement_at.Reads as statement-at-reads
 use Rattle.order.proofs.learn.learn.Reads as learn-reads
 use Rattle.policy.proofs.rows.roles_of.Reads as roles-of-reads
 use Rattle.program.proofs.answer.refused.Reads as refused-reads
+use Rattle.program.proofs.skips.after.Reads as after-reads
+use Rattle.program.proofs.skips.in_eights.Reads as in-eights-reads
 use Rattle.rules.proofs.enter.enter.Reads as enter-reads
 use Rattle.rules.proofs.simple.check_assign.Reads as check-assign-reads
 use Rattle.rules.proofs.simple.check_update.Reads as check-update-reads
@@ -246,6 +248,10 @@ pub +check-block+check-branch+check-branches+check-held+check-if+check-learnt+ch
       byte-at-reads.Learnt,
       is-skip-reads.Asked,
       is-skip-reads.Learnt,
+      in-eights-reads.Asked,
+      in-eights-reads.Learnt,
+      after-reads.Asked,
+      after-reads.Learnt,
       check-part-below t,
       check-part.Post,
     )
@@ -261,8 +267,11 @@ pub +check-block+check-branch+check-branches+check-held+check-if+check-learnt+ch
     (λ c κs. search needs)
     (λ c κs. search needs)
     (λ c. search needs)
+    (λ c κs. search needs)
+    (λ c κs. search needs)
     (λ c. search needs)
-    (λ c. search (needs, block-skip))
+    (λ c. search needs)
+    (λ c. search (needs, block-row))
     (λ c κs. search needs)
     (λ c. search (needs, block-refused))
     (λ c. search needs)

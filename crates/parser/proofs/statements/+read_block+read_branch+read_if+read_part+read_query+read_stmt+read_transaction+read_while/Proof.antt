@@ -38,6 +38,8 @@ use Rattle.program.proofs.answer.refused.Reads as refused-reads
 use Rattle.program.proofs.atoms.read_query.Reads as read-query-reads
 use Rattle.program.proofs.codes.statement_of.Reads as statement-of-reads
 use Rattle.program.proofs.entries.read_entries.Reads as read-entries-reads
+use Rattle.program.proofs.skips.in_eights.Reads as in-eights-reads
+use Rattle.shared.proofs.bytes.wide.Reads as wide-reads
 use Rattle.parser.proofs.expressions.read_expr.Reads as read-expr-reads
 use Rattle.parser.proofs.statements.is_code.Reads as is-code-reads
 use Rattle.parser.proofs.statements.read_assign.Reads as read-assign-reads
@@ -164,6 +166,10 @@ pub +read-block+read-branch+read-if+read-part+read-query+read-stmt+read-transact
       refused-reads.Learnt,
       is-code-reads.Asked,
       is-code-reads.Learnt,
+      in-eights-reads.Asked,
+      in-eights-reads.Learnt,
+      wide-reads.Asked,
+      wide-reads.Learnt,
       read-part-below t,
       read-part.Post,
     )
@@ -178,6 +184,11 @@ pub +read-block+read-branch+read-if+read-part+read-query+read-stmt+read-transact
     (λ c. (search (needs, blocks), search needs))
     (λ c κs. search needs)
     (λ c. search needs)
+    (λ c. search needs)
+    (λ c κs. search needs)
+    (λ c κs. search needs)
+    (λ c. search needs)
+    (λ c. search (needs, skips))
     (λ c. search needs)
     (λ c. search needs)
     (λ c. (search (needs, skips), search (needs, skips)))
