@@ -28,6 +28,7 @@ pub mod loosen;
 pub mod proved;
 pub mod proved_program;
 pub mod rng;
+pub mod safe;
 pub mod search;
 pub mod shapes;
 pub mod two_runs;

@@ -1,5 +1,5 @@
-//! The bench's opponent gives the reference's answers: on policies, on programs with their places and
-//! transactions' bodies, and on whole runs.
+//! Each of the bench's opponents gives the reference's answers: on policies, on programs with their places
+//! and transactions' bodies, and on whole runs.
 
 mod common {
     pub mod framed;
@@ -26,7 +26,41 @@ use reference::rules::Rules;
 use reference::run::call::{call_by, MOST_FUEL};
 use reference::shapes::*;
 use reference::writer::FAULTS;
-use reference::{fast, flow, largest, policy};
+use reference::{fast, flow, largest, policy, safe};
+
+/// The number, and where a transaction's body starts and how long it is.
+type Transaction = fn(&[u8], &[u8], u32) -> (u32, (usize, usize));
+/// The number and the units, of a run on these buffers.
+type Run = fn(&mut [u8], &[u8], &mut [u8], u32) -> (u32, u32);
+
+/// The calls of an implementation that the reference is compared with.
+struct Opponent {
+    name: &'static str,
+    policy: fn(&[u8]) -> u32,
+    meaning: fn(&[u8], u32) -> (u32, u32),
+    verdict: fn(&[u8], &[u8]) -> (u32, usize),
+    transaction: Transaction,
+    run: Run,
+}
+
+const OPPONENTS: [Opponent; 2] = [
+    Opponent {
+        name: "fast",
+        policy: fast::policy,
+        meaning: fast::meaning,
+        verdict: fast::verdict,
+        transaction: fast::transaction,
+        run: fast::run,
+    },
+    Opponent {
+        name: "safe",
+        policy: safe::policy,
+        meaning: safe::meaning,
+        verdict: safe::verdict,
+        transaction: safe::transaction,
+        run: safe::run,
+    },
+];
 
 const POLICIES: usize = 6_000;
 const VERDICTS: usize = 600;
@@ -35,7 +69,7 @@ const RUNS: usize = 2_500;
 const PLENTY: u32 = 3_000;
 
 #[test]
-fn fast_agrees_on_policies() {
+fn opponents_agree_on_policies() {
     for counts in with_both_seeds(|mut rng| {
         let mut counts = [0; 8];
         for policy in [chain_onward(), chain_back(), circle(), dense()] {
@@ -79,17 +113,21 @@ fn all_different(rng: &mut Rng) -> policy::Policy {
 fn check_policy(bytes: &[u8], counts: &mut [usize; 8]) {
     let number = policy::check(bytes);
     counts[number as usize] += 1;
-    assert_eq!(fast::policy(bytes), number, "{bytes:02x?}");
+    for Opponent { name, policy, .. } in &OPPONENTS {
+        assert_eq!(policy(bytes), number, "{name} {bytes:02x?}");
+    }
     let roles = bytes.get(6).map_or(0, |roles| u32::from(*roles));
     for role in (0..=roles.min(65)).chain([u32::MAX]) {
         let expected = policy::meaning(bytes, role);
         counts[7] += usize::from(expected.0 == 7);
-        assert_eq!(fast::meaning(bytes, role), expected, "{role} {bytes:02x?}");
+        for Opponent { name, meaning, .. } in &OPPONENTS {
+            assert_eq!(meaning(bytes, role), expected, "{name} {role} {bytes:02x?}");
+        }
     }
 }
 
 #[test]
-fn fast_agrees_on_programs() {
+fn opponents_agree_on_programs() {
     for counts in with_both_seeds(|mut rng| {
         let mut counts = [0; 23];
         for case in largest() {
@@ -160,13 +198,17 @@ fn check_case(mut case: Case, counts: &mut [usize; 23]) -> u32 {
 }
 
 fn check_program(policy: &[u8], program: &[u8], counts: &mut [usize; 23]) -> u32 {
-    let shown = || format!("{policy:02x?} {program:02x?}");
+    let shown = |name: &str| format!("{name} {policy:02x?} {program:02x?}");
     let expected = flow::verdict(policy, program);
     counts[expected.0 as usize] += 1;
-    assert_eq!(fast::verdict(policy, program), expected, "{}", shown());
+    for Opponent { name, verdict, .. } in &OPPONENTS {
+        assert_eq!(verdict(policy, program), expected, "{}", shown(name));
+    }
     for k in [0, 1, 2, 1313, u32::MAX] {
         let body = flow::transaction(policy, program, k);
-        assert_eq!(fast::transaction(policy, program, k), (expected.0, body), "{}", shown());
+        for Opponent { name, transaction, .. } in &OPPONENTS {
+            assert_eq!(transaction(policy, program, k), (expected.0, body), "{}", shown(name));
+        }
     }
     expected.0
 }
@@ -192,7 +234,7 @@ struct Counts {
 }
 
 #[test]
-fn fast_agrees_on_runs() {
+fn opponents_agree_on_runs() {
     for counts in with_both_seeds(|mut rng| {
         let mut counts = Counts::default();
         for _ in 0..RUNS {
@@ -223,7 +265,7 @@ const TURMOILS: usize = 1_500;
 /// What roles mean is kept from one update to the next: so updates of all kinds, in long rows, with queries
 /// in between, in transactions that list queries or none.
 #[test]
-fn fast_agrees_on_many_updates() {
+fn opponents_agree_on_many_updates() {
     for counts in with_both_seeds(|mut rng| {
         let mut counts = Counts::default();
         for _ in 0..TURMOILS {
@@ -423,18 +465,19 @@ fn refused_runs(rng: &mut Rng, counts: &mut Counts) {
 fn check_run(rng: &mut Rng, input: &Input, counts: &mut Counts) -> u32 {
     let Input { policy, program, memory, fuel } = input;
     let (expected, trace) = call_by(&Rules::default(), policy, program, memory, *fuel);
-    let [mut own_policy, own_program, mut own_memory] =
-        [policy, program, memory].map(|bytes| Framed::new(rng, bytes));
-    let found =
-        fast::run(own_policy.bytes_mut(), own_program.bytes(), own_memory.bytes_mut(), *fuel);
-    assert_eq!(found, (expected.number, expected.units), "{input:02x?}");
-    if expected.number != 0 {
-        own_policy.assert_unchanged();
-        own_memory.assert_unchanged();
+    for Opponent { name, run, .. } in &OPPONENTS {
+        let [mut own_policy, own_program, mut own_memory] =
+            [policy, program, memory].map(|bytes| Framed::new(rng, bytes));
+        let found = run(own_policy.bytes_mut(), own_program.bytes(), own_memory.bytes_mut(), *fuel);
+        assert_eq!(found, (expected.number, expected.units), "{name} {input:02x?}");
+        if expected.number != 0 {
+            own_policy.assert_unchanged();
+            own_memory.assert_unchanged();
+        }
+        own_policy.assert_changed_to(&expected.policy);
+        own_memory.assert_changed_to(&expected.memory);
+        own_program.assert_unchanged();
     }
-    own_policy.assert_changed_to(&expected.policy);
-    own_memory.assert_changed_to(&expected.memory);
-    own_program.assert_unchanged();
     counts.runs += 1;
     counts.numbers[expected.number as usize] += 1;
     counts.rolled_back += usize::from(!trace.rollbacks.is_empty());

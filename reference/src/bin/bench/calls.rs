@@ -7,7 +7,7 @@ use reference::generate::encode;
 use reference::policy::Policy;
 use reference::run::call::{bytes, values, Answer};
 use reference::run::run;
-use reference::{fast, proved_program};
+use reference::{fast, proved_program, safe};
 
 use crate::measure::Timed;
 
@@ -23,8 +23,8 @@ pub struct Input {
 /// A run on these buffers.
 type Run = fn(&mut [u8], &[u8], &mut [u8], u32) -> (u32, u32);
 
-/// The library's, and the fast one's.
-pub const RUNS: [Run; 2] = [proved_program::run, fast::run];
+/// The library's, the safe one's and the fast one's.
+pub const RUNS: [Run; 3] = [proved_program::run, safe::run, fast::run];
 
 impl Input {
     fn answer(&self, run: Run) -> Answer {
@@ -42,7 +42,7 @@ impl Input {
         Answer { number: end.number, units: end.units, policy, memory }
     }
 
-    /// The number and units that all three give, with the same policy and memory.
+    /// The number and units that all four give, with the same policy and memory.
     pub fn agreed(&self, name: &str) -> (u32, u32) {
         let expected = self.reference();
         for run in RUNS {

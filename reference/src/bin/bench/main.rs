@@ -1,7 +1,8 @@
-//! `cargo run --release --bin bench [BAR] [WORDS]`: the proved library beside two implementations without
-//! proofs, one made for speed alone (`reference::fast`) and the clear reference, in processor time. With
-//! WORDS only rows whose name has them. The last line is the worst ratio of library to fast; if it is
-//! above BAR, the bench fails.
+//! `cargo run --release --bin bench [BAR] [WORDS]`: the proved library beside three implementations without
+//! proofs, in processor time: one made for speed in safe Rust (`reference::safe`), which the bars are held
+//! against, one made for speed alone (`reference::fast`), and the clear reference. With WORDS only rows
+//! whose name has them. The last line is the worst ratio of library to safe; if it is above BAR, the bench
+//! fails.
 
 use std::env;
 use std::process::ExitCode;

@@ -4,7 +4,7 @@ use std::hint::black_box;
 
 use reference::generate::{chain_back, chain_onward, circle, dense, encode, valid_of_size};
 use reference::rng::Rng;
-use reference::{fast, policy, proved};
+use reference::{fast, policy, proved, safe};
 
 use crate::making::minimal;
 use crate::table::Table;
@@ -24,12 +24,14 @@ pub fn rows(table: &mut Table) {
         table.row(
             &format!("policy: {name}"),
             || proved::policy(black_box(bytes)),
+            || safe::policy(black_box(bytes)),
             || fast::policy(black_box(bytes)),
             || policy::check(black_box(bytes)),
         );
         table.row(
             &format!("meaning: {name}"),
             || proved::meaning(black_box(bytes), black_box(role)),
+            || safe::meaning(black_box(bytes), black_box(role)),
             || fast::meaning(black_box(bytes), black_box(role)),
             || policy::meaning(black_box(bytes), black_box(role)),
         );

@@ -9,7 +9,7 @@ use reference::generate_program::Case;
 use reference::policy::Policy;
 use reference::program::{Atom, Expression, Kind, Operator, Program, Query, Statement};
 use reference::shapes::*;
-use reference::{fast, flow, largest, proved_program};
+use reference::{fast, flow, largest, proved_program, safe};
 
 use crate::making::{blocks, minimal};
 use crate::table::Table;
@@ -24,6 +24,7 @@ pub fn rows(table: &mut Table) {
         table.row(
             &format!("verdict: {name}"),
             || proved_program::verdict(black_box(policy), black_box(program)),
+            || safe::verdict(black_box(policy), black_box(program)),
             || fast::verdict(black_box(policy), black_box(program)),
             || flow::verdict(black_box(policy), black_box(program)),
         );
@@ -39,6 +40,7 @@ pub fn rows(table: &mut Table) {
         table.row(
             &format!("transaction: {name}"),
             || proved_program::transaction(black_box(policy), black_box(program), black_box(k)),
+            || safe::transaction(black_box(policy), black_box(program), black_box(k)),
             || fast::transaction(black_box(policy), black_box(program), black_box(k)),
             || (number, flow::transaction(black_box(policy), black_box(program), black_box(k))),
         );

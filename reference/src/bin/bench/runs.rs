@@ -76,6 +76,11 @@ fn runs() -> Vec<(&'static str, Input, u32)> {
             plain(&[0, 1, 3], expressions(line(15))),
             1_000_000,
         ),
+        (
+            "expressions of 15 operators, in line to the left",
+            plain(&[0, 1, 3], expressions(line_to_the_left(15))),
+            1_000_000,
+        ),
         ("quotients", plain(&[0, 1, 3], quotients()), 1_000_000),
         ("queries, 1 role", input(&one(), &[0], queries(28_000, &about_one_role())), 952_002),
         (
@@ -133,6 +138,13 @@ fn even(depth: u8) -> Expression {
 fn line(operators: usize) -> Expression {
     (0..operators).fold(variable(0), |right, index| {
         binary(OPERATORS[index % 5], variable((index % 3) as u8), right)
+    })
+}
+
+/// So many operators, each on the left of the one before.
+fn line_to_the_left(operators: usize) -> Expression {
+    (0..operators).fold(variable(0), |left, index| {
+        binary(OPERATORS[index % 5], left, variable((index % 3) as u8))
     })
 }
 

@@ -3,7 +3,7 @@
 use crate::calls::{Input, RUNS};
 use crate::measure::{Reading, Timed, Times};
 
-/// What the project holds a row to: how much of the fast one's time the library may take.
+/// What the project holds a row to: how much of the safe one's time the library may take.
 pub const RUN_BAR: f64 = 1.25;
 pub const CALL_BAR: f64 = 2.0;
 pub const SMALLEST_RUN_BAR: f64 = 1.5;
@@ -30,20 +30,21 @@ impl Table {
 
     pub fn head(&self, what: &str) {
         println!(
-            "{what:58} {:>12} {:>12} {:>13} {:>6} {:>6} {:>5}",
-            "library", "fast", "reference", "/fast", "/ref", "bar"
+            "{what:58} {:>12} {:>12} {:>12} {:>13} {:>6} {:>5}      {:>6} {:>6}",
+            "library", "safe", "fast", "reference", "/safe", "bar", "/fast", "/ref"
         );
     }
 
     pub fn head_of_growth(&self) {
-        println!("{:58} {:>39} {:>6} {:>6} {:>5}", "growth of the library", "", "ratio", "", "bar");
+        println!("{:58} {:>52} {:>6} {:>5}", "growth of the library", "", "ratio", "bar");
     }
 
-    /// A row of calls that leave their input as it is. All three have to agree.
+    /// A row of calls that leave their input as it is. All four have to agree.
     pub fn row<T: PartialEq + std::fmt::Debug>(
         &mut self,
         name: &str,
         library: impl Fn() -> T,
+        safe: impl Fn() -> T,
         fast: impl Fn() -> T,
         reference: impl Fn() -> T,
     ) {
@@ -52,32 +53,40 @@ impl Table {
         }
         let expected = reference();
         assert_eq!(library(), expected, "{name}");
+        assert_eq!(safe(), expected, "{name}");
         assert_eq!(fast(), expected, "{name}");
-        let times =
-            Times::of(&mut [&mut Reading(library), &mut Reading(fast), &mut Reading(reference)]);
+        let times = Times::of(&mut [
+            &mut Reading(library),
+            &mut Reading(safe),
+            &mut Reading(fast),
+            &mut Reading(reference),
+        ]);
         self.print(name, &times, CALL_BAR, None);
     }
 
     /// A row of runs, which end with this number and units.
     pub fn run(&mut self, name: &str, input: &Input, end: (u32, u32), bar: f64) {
         assert_eq!(input.agreed(name), end, "{name}");
-        let [mut library, mut fast] = RUNS.map(|run| input.timed(run));
+        let [mut library, mut safe, mut fast] = RUNS.map(|run| input.timed(run));
         let mut reference = input.timed_reference();
-        let times = Times::of(&mut [&mut library, &mut fast, &mut reference as &mut dyn Timed]);
+        let times =
+            Times::of(&mut [&mut library, &mut safe, &mut fast, &mut reference as &mut dyn Timed]);
         self.print(name, &times, bar, Some(f64::from(end.1)));
     }
 
     fn print(&mut self, name: &str, times: &Times, bar: f64, units: Option<f64>) {
-        let [library, fast, reference] = [0, 1, 2].map(|which| times.median(|round| round[which]));
-        let ratio = times.median(|round| round[0] / round[1]);
-        let to_reference = times.median(|round| round[0] / round[2]);
+        let [library, safe, fast, reference] =
+            [0, 1, 2, 3].map(|which| times.median(|round| round[which]));
+        let [ratio, to_fast, to_reference] =
+            [1, 2, 3].map(|which| times.median(|round| round[0] / round[which]));
         let mark = if ratio > bar { " over" } else { "" };
         let by_unit = units.map_or(String::new(), |units| {
-            format!("  {:.2} and {:.2} ns a unit", library / units, fast / units)
+            let [library, safe, fast] = [library, safe, fast].map(|time| time / units);
+            format!("  {library:.2}, {safe:.2} and {fast:.2} ns a unit")
         });
         println!(
-            "{name:58} {library:9.0} ns {fast:9.0} ns {reference:10.0} ns {ratio:6.2} {to_reference:6.2} \
-             {bar:5.2}{mark:5}{by_unit}"
+            "{name:58} {library:9.0} ns {safe:9.0} ns {fast:9.0} ns {reference:10.0} ns {ratio:6.2} \
+             {bar:5.2}{mark:5} {to_fast:6.2} {to_reference:6.2}{by_unit}"
         );
         if ratio > self.worst {
             self.worst = ratio;
@@ -88,12 +97,12 @@ impl Table {
     /// A row that compares two things of the library, or the library with the machine.
     pub fn against(&self, name: &str, what: &str, ratio: f64, bar: f64) {
         let mark = if ratio > bar { " over" } else { "" };
-        println!("{name:58} {what:>39} {ratio:6.2} {:>6} {bar:5.2}{mark}", "");
+        println!("{name:58} {what:>52} {ratio:6.2} {bar:5.2}{mark}");
     }
 
     /// The last line; gives the ratio.
     pub fn print_worst(&self) -> f64 {
-        println!("worst ratio library/fast {:.2}: {}", self.worst, self.worst_name);
+        println!("worst ratio library/safe {:.2}: {}", self.worst, self.worst_name);
         self.worst
     }
 }
