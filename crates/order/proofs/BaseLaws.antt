@@ -30,7 +30,7 @@ use Rattle.shared.proofs.SetLaws.{single-is}
 use Rattle.order.specs.declared.table.Row.{Row}
 use Rattle.program.specs.Layout.{sideOf}
 use Rattle.order.specs.Table.{viewersAt, trustersAt, everyoneAt, tableWords, rowOf, rowIn, putRow, holds, union, withRole, rowHas, Knows}
-use Rattle.order.specs.Base.{Loaded, WordsOf, holders, fixedRow, RoleRows, FixedRows, RowsCopied, FindsRepeated, LastRows, Based}
+use Rattle.order.specs.Base.{Loaded, WordsOf, holders, fixedRow, RoleRows, RowsOf, FindsAlike, Based, Filled}
 use Rattle.order.proofs.TableLaws.{put-long, put-same, put-other, holds-union}
 
 -- the watchers that a flag names
@@ -65,26 +65,27 @@ pub ruleset loads = (loaded-none, loaded-more, loaded-done)
 
 -- the holders of a set, role by role
 module _ (w : List ℕ) (low : ℕ) where
-  module _ (j found : ℕ) (b : Bool) (e : found ≡ holders w low j) (d : b ≡ within low (getD w j 0)) where
+  module _ (j found word : ℕ) (b : Bool) (e : found ≡ holders w low j) (o : word ≡ getD w j 0) (d : b ≡ within low word) where
+    lies : b ≡ within low (getD w j 0)
+    lies = d ∙ ap (within low) o
+
     pub holder-in : b ≡ true → (x : ℕ) → j < roleLimit → x ≡ single j → bitOr found x ≡ holders w low (j + 1)
     unfolding holders
-    holder-in h x l g = rw (add-one j, ← d, h, g, e, single-is j l)
+    holder-in h x l g = rw (add-one j, ← lies, h, g, e, single-is j l)
 
     pub holder-out : b ≡ false → found ≡ holders w low (j + 1)
     unfolding holders
-    holder-out h = rw (add-one j, ← d, h) e
+    holder-out h = rw (add-one j, ← lies, h) e
 
   pub holders-none : 0 ≡ holders w low 0
   unfolding holders
   holders-none = refl
 
-  pub holders-done : (found j n : ℕ) → found ≡ holders w low j → j ≤ n → n ≤ j → found ≡ holders w low n
-  holders-done found j n e h k = let q : j ≡ n = omega arith in rw (← q) e
+pub ruleset holder-laws = (holder-in, holder-out)
 
-pub ruleset holder-laws = (holder-in, holder-out, holders-none, holders-done)
-
-pub fixed-row : (v w : List ℕ) (n low x y : ℕ) → x ≡ holders v low n → y ≡ holders w low n → record { roles = 0; viewers = x; trusters = y } ≡ fixedRow v w n low
-fixed-row v w n low x y p q = rw (p, q)
+pub fixed-row : (v w : List ℕ) (low j n x y : ℕ) → x ≡ holders v low j → y ≡ holders w low j → j ≤ n → n ≤ j
+    → record { roles = 0; viewers = x; trusters = y } ≡ fixedRow v w n low
+fixed-row v w low j n x y p q h k = let e : j ≡ n = omega arith in rw (p, q, e)
 
 -- all of n principals
 pub single-some : (n x : ℕ) → n < 64 → x ≡ single n → 1 ≤ x
@@ -197,51 +198,42 @@ role-written x y m j t t₁ t₂ u long l g e f h =
       others = λ z n₁ n₂ n₃. put-other t₂ u (trustersAt + j) y long₂ h z n₃ ∙ put-other t₁ t₂ (viewersAt + j) x long₁ f z n₂ ∙ put-other t t₁ j m long e z n₁;
     }
 
--- rows by other words for the same
-pub rows-are : (x x′ y y′ : Row) (j : ℕ) (t u : List ℕ) → x ≡ x′ → y ≡ y′ → RoleRows x y j t u → RoleRows x′ y′ j t u
-rows-are x x′ y y′ j t u p q h =
-    record {
-      long = h .long;
-      viewers-row = h .viewers-row ∙ p;
-      trusters-row = h .trusters-row ∙ q;
-      role-row = h .role-row ∙ rw (p, q);
-      others = h .others;
-    }
+-- the row of a set is everyone's where it is all principals, or made
+module _ (v w : List ℕ) (n low word : ℕ) (o : word ≡ low) (x : Row) where
+  pub known-row : (all : ℕ) → word ≡ all → x ≡ fixedRow v w n all → x ≡ fixedRow v w n low
+  known-row all e h = h ∙ ap (fixedRow v w n) (sym e ∙ o)
 
--- the role before has the same words, or not
-module _ (v w : List ℕ) (j : ℕ) where
-  pub first-new : FindsRepeated v w j false
-  unfolding FindsRepeated
-  first-new e = absurd (false≢true e)
+  pub made-row : x ≡ fixedRow v w n word → x ≡ fixedRow v w n low
+  made-row h = h ∙ ap (fixedRow v w n) o
 
-  pub same-words : (b : Bool) → (j ≡ 0 → ⊥) → getD v (j - 1) 0 ≡ getD v j 0 → b ≡ eqb (getD w (j - 1) 0) (getD w j 0) → FindsRepeated v w j b
-  unfolding FindsRepeated
-  same-words b o p d e = record { later = omega arith; viewers-same = p; trusters-same = eqb-true _ _ (sym d ∙ e) }
+pub ruleset set-rows = (known-row, made-row)
 
-pub ruleset repeats = (first-new, same-words)
+-- the rows of a role's viewers and trusters, two or one
+module _ (v w : List ℕ) (n j : ℕ) (x : Row) (p : x ≡ fixedRow v w n (getD v j 0)) where
+  pub rows-two : (y : Row) → y ≡ fixedRow v w n (getD w j 0) → RowsOf v w n j x y
+  rows-two y q = record { by-viewers = p; by-trusters = q }
 
--- rows taken over from a role with the same words are those that the words give
-pub last-none : (v w : List ℕ) (n : ℕ) (t : List ℕ) → LastRows v w n 0 t
-unfolding LastRows
-last-none v w n t i e = absurd (omega arith)
+  pub rows-one : getD v j 0 ≡ getD w j 0 → RowsOf v w n j x x
+  rows-one e = record { by-viewers = p; by-trusters = p ∙ ap (fixedRow v w n) e }
 
-module _ (v w : List ℕ) (n j : ℕ) (t u : List ℕ) where
-  pub last-more : FixedRows v w n j t u → LastRows v w n (j + 1) u
-  unfolding LastRows
-  last-more h i e = let q : i ≡ j = omega arith in (rw q (h .viewers-row), rw q (h .trusters-row))
+-- roles have the same words, or not
+module _ (v w : List ℕ) (i j : ℕ) where
+  pub not-alike : FindsAlike v w i j false
+  unfolding FindsAlike
+  not-alike e = absurd (false≢true e)
 
-  pub rows-copied : (b : Bool) → FindsRepeated v w j b → b ≡ true → LastRows v w n j t → RowsCopied j t u → FixedRows v w n j t u
-  unfolding FindsRepeated LastRows
-  rows-copied b f e l h =
-      let r = f e in
-      let (x, y) = l (j - 1) (omega (arith, r .later)) in
-      rows-are _ _ _ _ j t u (x ∙ ap (fixedRow v w n) (r .viewers-same)) (y ∙ ap (fixedRow v w n) (r .trusters-same)) h
+  pub words-alike : (b : Bool) → getD v i 0 ≡ getD v j 0 → b ≡ eqb (getD w i 0) (getD w j 0) → FindsAlike v w i j b
+  unfolding FindsAlike
+  words-alike b p d e = record { viewers-same = p; trusters-same = eqb-true _ _ (sym d ∙ e) }
 
-pub repeated-later : (v w : List ℕ) (j : ℕ) (b : Bool) → FindsRepeated v w j b → b ≡ true → 0 < j
-unfolding FindsRepeated
-repeated-later v w j b f e = f e .later
+  -- then their rows are the same
+  rows-alike : (n : ℕ) (x y : Row) (b : Bool) → RowsOf v w n i x y → FindsAlike v w i j b → b ≡ true → RowsOf v w n j x y
+  unfolding FindsAlike
+  rows-alike n x y b h f e =
+      let k = f e in
+      record { by-viewers = h .by-viewers ∙ ap (fixedRow v w n) (k .viewers-same); by-trusters = h .by-trusters ∙ ap (fixedRow v w n) (k .trusters-same) }
 
-pub ruleset copies = (rows-copied, repeated-later)
+pub ruleset alikes = (not-alike, words-alike)
 
 -- everyone's row, then the rows of role j, its viewers and its trusters
 module _ (s : List ℕ) (ok : Accepted s) (v w : List ℕ) (n : ℕ) (words : WordsOf s n v w) where
@@ -256,7 +248,7 @@ module _ (s : List ℕ) (ok : Accepted s) (v w : List ℕ) (n : ℕ) (words : Wo
       right a (fixed everyone) k m =
           ap (λ (x : Row). holds x a) (put-same t u everyoneAt r l h (omega arith) ∙ g ∙ ap (fixedRow v w n) (d ∙ rw (e, q))) ∙ row-fixed s ok v w n words everyone tt a k
 
-  module _ (t u : List ℕ) (j : ℕ) (l : j < n) (b : Based s j t) (h : FixedRows v w n j t u) where
+  module _ (t u : List ℕ) (j : ℕ) (l : j < n) (b : Based s j t) (x y : Row) (o : RowsOf v w n j x y) (h : RoleRows x y j t u) where
     few : j < roleLimit
     few = omega (arith, accepted-facts s ok .roles-fit, words .roles-are)
 
@@ -265,8 +257,8 @@ module _ (s : List ℕ) (ok : Accepted s) (v w : List ℕ) (n : ℕ) (words : Wo
 
     new-fixed : (side : Side) → rowIn u (rowOf (fixed (of side j))) ≡ fixedRow v w n (fixedSet s (of side j))
     unfolding fixedSet
-    new-fixed reading = h .viewers-row ∙ ap (fixedRow v w n) (words .viewers-are .right j l)
-    new-fixed trust = h .trusters-row ∙ ap (fixedRow v w n) (words .trusters-are .right j l)
+    new-fixed reading = h .viewers-row ∙ o .by-viewers ∙ ap (fixedRow v w n) (words .viewers-are .right j l)
+    new-fixed trust = h .trusters-row ∙ o .by-trusters ∙ ap (fixedRow v w n) (words .trusters-are .right j l)
 
     new-role : rowIn u j ≡ withRole (union (fixedRow v w n (fixedSet s (of reading j))) (fixedRow v w n (fixedSet s (of trust j)))) j
     new-role = h .role-row ∙ ap (λ (r : Row). withRole r j) (both (sym (h .viewers-row) ∙ new-fixed reading) (sym (h .trusters-row) ∙ new-fixed trust))
@@ -280,7 +272,7 @@ module _ (s : List ℕ) (ok : Accepted s) (v w : List ℕ) (n : ℕ) (words : Wo
     old (fixed (of trust o)) a = h .others (trustersAt + o) (λ r. omega (arith, few)) (λ r. omega (arith, few)) (λ r. omega arith)
     old (fixed everyone) a = h .others everyoneAt (λ r. omega (arith, few)) (λ r. omega (arith, few)) (λ r. omega (arith, few))
 
-    pub based-more : Based s (j + 1) u
+    based-more : Based s (j + 1) u
     based-more = record { long = h .long; right = right }
       where
         stays : (a o : Atom) → AtomFits (roles s) a → AtomFits j o → rowHas u (rowOf o) a ≡ base s a o
@@ -295,11 +287,33 @@ module _ (s : List ℕ) (ok : Accepted s) (v w : List ℕ) (n : ℕ) (words : Wo
             (stays a (fixed (of side o)) ha) (last-or j o (rw add-one at ho))
         right a (fixed everyone) ha ho = stays a (fixed everyone) ha tt
 
+-- tables that get the rows of one role after the other
+module _ (v w : List ℕ) (n : ℕ) where
+  pub filled-none : (i : ℕ) (t : List ℕ) → length t ≡ tableWords → Filled v w n i i t t
+  filled-none i t l = record { long = l; grows = λ s ok words b. b }
+
+  pub filled-on : (i j k : ℕ) (t t₁ u : List ℕ) → Filled v w n i j t t₁ → Filled v w n j k t₁ u → Filled v w n i k t u
+  filled-on i j k t t₁ u f g = record { long = g .long; grows = λ s ok words b. g .grows s ok words (f .grows s ok words b) }
+
+  pub filled-done : (i j : ℕ) (t u : List ℕ) → Filled v w n i j t u → j ≤ n → n ≤ j → Filled v w n i n t u
+  filled-done i j t u f h k = let q : j ≡ n = omega arith in rw q at f
+
+  module _ (x y : Row) (i : ℕ) (h : RowsOf v w n i x y) (t u : List ℕ) where
+    pub filled-from : i < n → RoleRows x y i t u → (j : ℕ) (u₁ : List ℕ) → Filled v w n (i + 1) j u u₁ → Filled v w n i j t u₁
+    filled-from l r j u₁ f = record { long = f .long; grows = λ s ok words b. f .grows s ok words (based-more s ok v w n words t u i l b x y h r) }
+
+    pub filled-more : (j k : ℕ) (b : Bool) → FindsAlike v w i j b → b ≡ true → j < n → (t₀ : List ℕ) → Filled v w n k j t₀ t → RoleRows x y j t u
+        → Filled v w n k (j + 1) t₀ u
+    filled-more j k b a e l t₀ f r =
+        record { long = r .long; grows = λ s ok words o. based-more s ok v w n words t u j l (f .grows s ok words o) x y (rows-alike v w i j n x y b h a e) r }
+
 -- rows for all roles are the order with no query known
-pub knows-none : (s t : List ℕ) (n j : ℕ) → n ≡ roles s → j ≤ n → n ≤ j → Based s j t → Knows s [] t
+pub knows-none : (s v w t u : List ℕ) (n : ℕ) → Accepted s → WordsOf s n v w → Based s 0 t → Filled v w n 0 n t u → Knows s [] u
 unfolding atMost
-knows-none s t n j e h k b = let r : j ≡ roles s = omega arith in record { long = b .long; decides = rw r at b .right }
+knows-none s v w t u n ok words b f =
+    let d = f .grows s ok words b in
+    record { long = f .long; decides = rw (words .roles-are) at d .right }
 
 pub ruleset facts = (head-there, principals-few, roles-few, accepted-row)
 
-pub ruleset based = (based-none, based-more, knows-none)
+pub ruleset based = (based-none, knows-none)

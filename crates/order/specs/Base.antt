@@ -1,12 +1,12 @@
 -- How the table with no query known comes about: words read from the fixed part, and rows made from them.
-use Prim.Native.Nat.{ℕ, zero, suc, _+_, _-_, _<_}
+use Prim.Native.Nat.{ℕ, zero, suc, _+_, _<_}
 use mathlib.Core.Path.{_≡_}
 use mathlib.Core.List.{List}
 use mathlib.Core.Bool.{Bool, true, cond}
 use lib.ListN.{length, getD}
 use Rattle.model.specs.Limits.{roleLimit}
 use Rattle.model.specs.Sets.{within, with}
-use Rattle.model.specs.Policy.{Side, reading, trust, roles, watchers}
+use Rattle.model.specs.Policy.{Side, reading, trust, roles, watchers, Accepted}
 use Rattle.model.specs.Syntax.{Atom}
 use Rattle.model.specs.Fits.{AtomFits}
 use Rattle.model.specs.Order.{base}
@@ -41,31 +41,26 @@ pub record RoleRows (x y : Row) (j : ℕ) (t u : List ℕ) : Type 0 where
   pub role-row : rowIn u j ≡ withRole (union x y) j
   pub others : (y : ℕ) → (y ≡ j → ⊥) → (y ≡ viewersAt + j → ⊥) → (y ≡ trustersAt + j → ⊥) → rowIn u y ≡ rowIn t y
 
--- with those that the words give
-abbrev pub FixedRows : List ℕ → List ℕ → ℕ → ℕ → List ℕ → List ℕ → Type 0
-FixedRows v w n j t u = RoleRows (fixedRow v w n (getD v j 0)) (fixedRow v w n (getD w j 0)) j t u
+-- x and y are the rows of the viewers and the trusters of role j
+pub record RowsOf (v w : List ℕ) (n j : ℕ) (x y : Row) : Type 0 where
+  pub by-viewers : x ≡ fixedRow v w n (getD v j 0)
+  pub by-trusters : y ≡ fixedRow v w n (getD w j 0)
 
--- with those of the role before it
-abbrev pub RowsCopied : ℕ → List ℕ → List ℕ → Type 0
-RowsCopied j t u = RoleRows (rowIn t (viewersAt + (j - 1))) (rowIn t (trustersAt + (j - 1))) j t u
-
--- role j has the words of the role before it
-pub record Repeats (v w : List ℕ) (j : ℕ) : Type 0 where
-  pub later : 0 < j
-  pub viewers-same : getD v (j - 1) 0 ≡ getD v j 0
-  pub trusters-same : getD w (j - 1) 0 ≡ getD w j 0
+-- roles i and j have the same words
+pub record Alike (v w : List ℕ) (i j : ℕ) : Type 0 where
+  pub viewers-same : getD v i 0 ≡ getD v j 0
+  pub trusters-same : getD w i 0 ≡ getD w j 0
 
 -- r is true only then
-unfoldable pub FindsRepeated : List ℕ → List ℕ → ℕ → Bool → Type 0
-FindsRepeated v w j r = r ≡ true → Repeats v w j
-
--- the table t has the rows of the viewers and the trusters of the last of j roles, if there is one
-unfoldable pub LastRows : List ℕ → List ℕ → ℕ → ℕ → List ℕ → Type 0
-LastRows v w n j t =
-    (i : ℕ) → j ≡ i + 1
-    → (rowIn t (viewersAt + i) ≡ fixedRow v w n (getD v i 0)) × (rowIn t (trustersAt + i) ≡ fixedRow v w n (getD w i 0))
+unfoldable pub FindsAlike : List ℕ → List ℕ → ℕ → ℕ → Bool → Type 0
+FindsAlike v w i j r = r ≡ true → Alike v w i j
 
 -- a table whose rows of everyone and of the first n roles' atoms are those of no known query
 pub record Based (s : List ℕ) (n : ℕ) (t : List ℕ) : Type 0 where
   pub long : length t ≡ tableWords
   pub right : (a b : Atom) → AtomFits (roles s) a → AtomFits n b → rowHas t (rowOf b) a ≡ base s a b
+
+-- if t has the rows of everyone and of the first i roles' atoms, u has those of everyone and of the first j roles' atoms
+pub record Filled (v w : List ℕ) (n i j : ℕ) (t u : List ℕ) : Type 0 where
+  pub long : length u ≡ tableWords
+  pub grows : (s : List ℕ) → Accepted s → WordsOf s n v w → Based s i t → Based s j u
