@@ -46,8 +46,6 @@ module _ (s p m : List ℕ) (vars fuel : ℕ) (h : Admitted s p m vars fuel) whe
 
 pub ruleset tracking = (copy-count, tracked-loadable)
 
-pub ruleset besides = (copy-large)
-
 -- room for the code and the words
 module _ (s p m : List ℕ) (vars fuel : ℕ) (h : Admitted s p m vars fuel) where
   pub small-rooms : length p ≤ 128 → (words : List ℕ) → length words ≡ 192 → Rooms p (zeros 512) words

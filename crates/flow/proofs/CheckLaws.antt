@@ -31,9 +31,10 @@ use Rattle.program.specs.Answer.{Reached, reached, stopped, placeLimit, refusal
 use Rattle.program.proofs.AnswerLaws.{position-told, refusal-told}
 use Rattle.program.specs.Codes.{statementOf, statementByte}
 use Rattle.program.proofs.CodeLaws.{statement-byte, statement-none}
+use Rattle.program.specs.Skips.{Skips}
+use Rattle.program.proofs.SkipLaws.{over-row}
 use Rattle.order.specs.Table.{tableWords, queryOf, Learnt}
 use Rattle.order.proofs.LearnLaws.{known-learnt}
-use Rattle.program.specs.Skips.{Skips, no-skip, skip-more}
 use Rattle.gathered.specs.Positions.{ahead, afterList}
 use Rattle.gathered.specs.Labels.{allBelow, LabelsAt}
 use Rattle.gathered.proofs.PositionLaws.{ahead-is, list-is}
@@ -303,18 +304,12 @@ module _ (s p t : List ℕ) (c : Context) (d at : ℕ) where
             omega (arith, st .short, stmt-there p (principals s) (roles s) (variables p) (d - 1) next (v .head-read))
 
   -- skips in a row
-  skips-blocked : (left next : ℕ) → Blocking left next → (n : ℕ) → Skips p next n → n ≤ left → Blocking (left - n) (next + n)
-  skips-blocked left next inv n no-skip few = let j : left - 0 ≡ left = omega arith in let k : next + 0 ≡ next = omega arith in rw (j, k) inv
-  skips-blocked left next inv n (skip-more k row l z) few =
-      let before = skips-blocked left next inv k row (omega arith) in
-      let j : left - (k + 1) ≡ left - k - 1 = omega arith in
-      let m : next + (k + 1) ≡ next + k + 1 = omega arith in
-      let found : true ≡ eqb (byte p (next + k)) 0 = rw z in
-      rw (j, m) (block-skip (left - k) (next + k) before (next + k + 1) true (omega arith) found refl (sym (ahead-is p (next + k) 1 (omega arith))))
+  skip-blocked : (left next : ℕ) → Blocking left next → 0 < left → next < length p → byte p next ≡ 0 → Blocking (left - 1) (next + 1)
+  skip-blocked left next inv some l z = let found : true ≡ eqb (byte p next) 0 = rw z in block-skip left next inv (next + 1) true some found refl (sym (ahead-is p next 1 (omega arith)))
 
   pub block-row : (left next : ℕ) → Blocking left next → (b : Bool) (m n q : ℕ) → 0 < left → b ≡ eqb (byte p next) 0 → b ≡ true → m ≡ ahead p next 1 → Skips p m n → n ≤ left - 1 → q ≡ m + n
       → Blocking (left - 1 - n) q
-  block-row left next inv b m n q some e h k row few q-is = rw q-is (skips-blocked (left - 1) m (block-skip left next inv m b some e h k) n row few)
+  block-row left next inv b m n q some e h k row few q-is = rw q-is (over-row p Blocking skip-blocked m n (left - 1) row (block-skip left next inv m b some e h k) few)
 
   -- an if, a while
   module _ (q : ℕ) (l : List ℕ) (next : ℕ) (r : ℕ) (e : q ≡ ahead p at 1) (f : LabelsAt p expressionDepth q (c .labels .readers ∷ c .labels .trusters ∷ []) l next) where

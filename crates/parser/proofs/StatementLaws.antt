@@ -20,8 +20,8 @@ use Rattle.program.specs.declared.codes.StatementOf.the-variants.{Is, No}
 use Rattle.program.specs.Answer.{Reached, reached, stopped, placeLimit, told, endOf, readAssign, readUpdate, FindsCode}
 use Rattle.program.specs.Codes.{statementOf}
 use Rattle.program.proofs.CodeLaws.{through}
-use Rattle.program.specs.Skips.{Skips, no-skip, skip-more}
-use Rattle.program.proofs.SkipLaws.{skips-low}
+use Rattle.program.specs.Skips.{Skips}
+use Rattle.program.proofs.SkipLaws.{skips-low, over-row}
 use Rattle.program.proofs.AnswerLaws.{position-told, tells, then-at, then-refused, then-last, then-end, then-same, pick-same, byte-there, byte-missing, many, many-next}
 
 -- an assignment
@@ -253,12 +253,10 @@ module _ (s : List ℕ) (d at code : ℕ) where
 skips-passed : (s : List ℕ) (P R v d at i : ℕ) (r : Reached) → (d ≡ 0 → ⊥) → (n : ℕ) → Skips s at n → endOf (readMany (readStmt s P R v d) i at) ≡ r → n ≤ i
     → endOf (readMany (readStmt s P R v d) (i - n) (at + n)) ≡ r
 unfolding statementOf
-skips-passed s P R v d at i r f n no-skip e few = let j : i - 0 ≡ i = omega arith in let k : at + 0 ≡ at = omega arith in rw (j, k) e
-skips-passed s P R v d at i r f n (skip-more k row l z) e few =
-    let before = skips-passed s P R v d at i r f k row e (omega arith) in
-    let j : i - (k + 1) ≡ i - k - 1 = omega arith in
-    let m : at + (k + 1) ≡ at + k + 1 = omega arith in
-    rw (j, m) (many-next (readStmt s P R v d) (i - k) (at + k) (at + k + 1) r before (omega arith) (stmt-skip s P R v d (at + k) f l (Is Skip) (rw z) Skip refl refl))
+skips-passed s P R v d at i r f n row e few =
+    over-row s (λ left next. endOf (readMany (readStmt s P R v d) left next) ≡ r)
+    (λ left next h some l z. many-next (readStmt s P R v d) left next (next + 1) r h some (stmt-skip s P R v d next f l (Is Skip) (rw z) Skip refl refl))
+    at n i row e few
 
 -- a code that is found
 module _ (s : List ℕ) (d at : ℕ) where
@@ -279,14 +277,14 @@ module _ (s : List ℕ) (d at : ℕ) where
         many-next (readStmt s P R v d) i at (at + 1) r e l (stmt-skip s P R v d at (k .deep) (k .there) (Is Skip) (rw (k .is)) Skip refl refl)
 
     -- and with it those behind it
-    module _ (n w : ℕ) (w-is : w ≡ n) (row : Skips s (at + 1) n) where
-      pub row-low : length s < placeLimit → at + 1 + w < placeLimit
-      row-low l = rw w-is (skips-low s (at + 1) n row l (found-low 0 b f h l))
+    module _ (n q : ℕ) (row : Skips s (at + 1) n) (q-is : q ≡ at + 1 + n) where
+      pub row-low : length s < placeLimit → q < placeLimit
+      row-low l = rw q-is (skips-low s (at + 1) n row l (found-low 0 b f h l))
 
       pub row-passed : (P R v i : ℕ) (r : Reached) → endOf (readMany (readStmt s P R v d) i at) ≡ r → 0 < i → n ≤ i - 1
-          → endOf (readMany (readStmt s P R v d) (i - 1 - n) (at + 1 + w)) ≡ r
+          → endOf (readMany (readStmt s P R v d) (i - 1 - n) q) ≡ r
       unfolding FindsCode
-      row-passed P R v i r e l few = rw w-is (skips-passed s P R v d (at + 1) (i - 1) r (f h .deep) n row (skip-passed P R v i r e l) few)
+      row-passed P R v i r e l few = rw q-is (skips-passed s P R v d (at + 1) (i - 1) r (f h .deep) n row (skip-passed P R v i r e l) few)
 
     -- and a branch that is one
     pub skip-branch : (P R v : ℕ) → length s < placeLimit → told (at + 1) ≡ endOf (readStmt s P R v d at)

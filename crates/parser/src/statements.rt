@@ -14,7 +14,6 @@ use program::codes::StatementOf;
 use program::entries;
 use program::entries::Entry;
 use program::skips;
-use shared::bytes;
 use shared::limit;
 use shared::number;
 
@@ -105,10 +104,10 @@ fn read_block(program: &&[u8], principals: u8, roles: u8, vars: u8, depth: u8, a
     let mut next = at + 1;
     while 0 < left {
         if is_code(program, depth, next, SKIP) {
-            next += 1;
+            let rest = next + 1;
             left -= 1;
-            let more = skips::in_eights(*program, next, left);
-            next += bytes::wide(more) as usize;
+            let more = skips::in_eights(*program, rest, left);
+            next = skips::after(*program, rest, more);
             left -= more;
         } else {
             let one = read_part(program, principals, roles, vars, depth, next);

@@ -41,4 +41,14 @@ module _ (s : List ℕ) (at : ℕ) where
   skips-fit n w e no-skip long f = record { fits = omega (arith, f .fits) }
   skips-fit n w e (skip-more k g l z) long f = record { fits = omega arith }
 
+-- What goes on over one skip goes on over a row of them: P says of what is left to go through, and where.
+pub over-row : (s : List ℕ) (P : ℕ → ℕ → Type 0) → ((left next : ℕ) → P left next → 0 < left → next < length s → byte s next ≡ 0 → P (left - 1) (next + 1))
+    → (at n left : ℕ) → Skips s at n → P left at → n ≤ left → P (left - n) (at + n)
+over-row s P over at n left no-skip h few = let j : left - 0 ≡ left = omega arith in let k : at + 0 ≡ at = omega arith in rw (j, k) h
+over-row s P over at n left (skip-more k row l z) h few =
+    let before = over-row s P over at k left row h (omega arith) in
+    let j : left - (k + 1) ≡ left - k - 1 = omega arith in
+    let m : at + (k + 1) ≡ at + k + 1 = omega arith in
+    rw (j, m) (over (left - k) (at + k) before (omega arith) l z)
+
 pub ruleset eights = (no-skip, eight-more)

@@ -39,7 +39,7 @@ use Rattle.program.proofs.atoms.read_query.Reads as read-query-reads
 use Rattle.program.proofs.codes.statement_of.Reads as statement-of-reads
 use Rattle.program.proofs.entries.read_entries.Reads as read-entries-reads
 use Rattle.program.proofs.skips.in_eights.Reads as in-eights-reads
-use Rattle.shared.proofs.bytes.wide.Reads as wide-reads
+use Rattle.program.proofs.skips.after.Reads as after-reads
 use Rattle.parser.proofs.expressions.read_expr.Reads as read-expr-reads
 use Rattle.parser.proofs.statements.is_code.Reads as is-code-reads
 use Rattle.parser.proofs.statements.read_assign.Reads as read-assign-reads
@@ -168,8 +168,8 @@ pub +read-block+read-branch+read-if+read-part+read-query+read-stmt+read-transact
       is-code-reads.Learnt,
       in-eights-reads.Asked,
       in-eights-reads.Learnt,
-      wide-reads.Asked,
-      wide-reads.Learnt,
+      after-reads.Asked,
+      after-reads.Learnt,
       read-part-below t,
       read-part.Post,
     )
@@ -187,8 +187,6 @@ pub +read-block+read-branch+read-if+read-part+read-query+read-stmt+read-transact
     (λ c. search needs)
     (λ c κs. search needs)
     (λ c κs. search needs)
-    (λ c. search needs)
-    (λ c. search (needs, skips))
     (λ c. search needs)
     (λ c. search needs)
     (λ c. (search (needs, skips), search (needs, skips)))
