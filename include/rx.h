@@ -6,7 +6,7 @@
    Threads: no call keeps anything between calls, so any number of threads may call at once, also on the same policy and
    program; a policy and a memory that rx_run is given are for that call alone. Stack: a thread that calls rx_policy or
    rx_meaning needs 32 KiB, one that calls rx_program, rx_place or rx_transaction 128 KiB, one that calls rx_run 192 KiB
-   (measured on the deepest programs: 106 KB, and 155 KB for rx_run). */
+   (measured on the deepest programs: 95 KB, and 146 KB for rx_run). */
 #ifndef RX_H
 #define RX_H
 
