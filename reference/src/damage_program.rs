@@ -22,8 +22,10 @@ pub struct Refused {
 }
 
 /// What a byte can be that has wrong values.
-pub const PARTS: [Part; 13] = [
-    Part::MarkOrVersion,
+pub const PARTS: [Part; 15] = [
+    Part::Mark,
+    Part::Version,
+    Part::VersionHigh,
     Part::VariableCount,
     Part::Label,
     Part::Code,
@@ -43,7 +45,10 @@ pub fn wrong_byte(rng: &mut Rng, case: &Case, part: Part, byte: u8) -> (u8, u32)
     let roles = case.policy.rows.len() as u8;
     let range = 13;
     match part {
-        Part::MarkOrVersion => (byte ^ rng.between(1, 255), 11),
+        Part::Mark => (byte ^ rng.between(1, 255), 11),
+        Part::Version if rng.below(4) == 0 => (0, 11),
+        Part::Version => (rng.between(3, 255), 11),
+        Part::VersionHigh => (rng.between(1, 255), 11),
         Part::VariableCount => (rng.between(MOST_VARIABLES + 1, 255), range),
         Part::Label => (rng.between(roles, 254), range),
         Part::Code | Part::ExpressionCode => (rng.between(8, 255), 12),
@@ -110,10 +115,13 @@ fn refused(case: Case, bytes: Vec<u8>, number: u32, place: usize) -> Refused {
     Refused { policy: case.policy, bytes, refusal: Refusal { number, place } }
 }
 
-/// Cut off anywhere.
+/// Cut off anywhere, often in mark, version or count of variables.
 pub fn ends_early(rng: &mut Rng) -> Refused {
     let (case, mut file) = readable(rng);
-    let length = rng.below(file.bytes.len());
+    let length = match rng.below(8) {
+        0 => rng.below(6),
+        _ => rng.below(file.bytes.len()),
+    };
     file.bytes.truncate(length);
     refused(case, file.bytes, 10, length)
 }

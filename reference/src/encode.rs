@@ -3,7 +3,7 @@
 
 use crate::program::{
     Atom, Expression, Form, Kind, Mutation, Operator, Program, Query, Statement, Transaction,
-    MARK_AND_VERSION, MOST_EXPRESSION_DEPTH, MOST_STATEMENT_DEPTH,
+    Version, MARK, MOST_EXPRESSION_DEPTH, MOST_STATEMENT_DEPTH,
 };
 
 /// As a statement's offset: the one whose place is wanted.
@@ -12,7 +12,11 @@ pub const MARKED: usize = usize::MAX;
 /// What a byte is, and so what is wrong in its place.
 #[derive(Clone, Copy, Debug, PartialEq, Eq)]
 pub enum Part {
-    MarkOrVersion,
+    Mark,
+    /// The low byte, 1 or 2.
+    Version,
+    /// The high byte, 0.
+    VersionHigh,
     VariableCount,
     Label,
     Code,
@@ -40,11 +44,24 @@ pub struct File {
     pub too_deep: Option<usize>,
 }
 
+/// What the bytes of `head` are.
+const HEAD: [Part; 5] = [Part::Mark, Part::Mark, Part::Mark, Part::Version, Part::VersionHigh];
+
+/// Mark and version.
+pub fn head(version: Version) -> [u8; 5] {
+    let low = match version {
+        Version::One => 0x01,
+        Version::Two => 0x02,
+    };
+    let [r, x, p] = MARK;
+    [r, x, p, low, 0x00]
+}
+
 /// Writes the program's bytes, and into the tree the offsets and lengths that reading gives it.
 pub fn encode(program: &mut Program) -> File {
     let mut file = File { bytes: vec![], parts: vec![], marked: None, too_deep: None };
-    for byte in MARK_AND_VERSION {
-        file.put(Part::MarkOrVersion, byte);
+    for (byte, part) in head(program.version).into_iter().zip(HEAD) {
+        file.put(part, byte);
     }
     file.put(Part::VariableCount, program.labels.len() as u8);
     for labels in &program.labels {

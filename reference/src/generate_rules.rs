@@ -5,7 +5,7 @@
 use crate::generate::{free_name, valid_of_size};
 use crate::generate_program::{label, Case};
 use crate::policy::{Policy, Row, Side, SIDES};
-use crate::program::{Atom, Labels, Program, Query, Statement, MOST_LISTED};
+use crate::program::{Atom, Labels, Program, Query, Statement, MOST_LISTED, VERSIONS};
 use crate::rng::Rng;
 use crate::shapes::*;
 
@@ -42,7 +42,8 @@ impl Stage {
         for _ in 0..*rng.pick(&[0, 1, 60]) {
             all.push(labels(label(rng, &self.policy), label(rng, &self.policy)));
         }
-        Case { policy: self.policy, program: Program { labels: all, statement } }
+        let program = Program { version: *rng.pick(&VERSIONS), labels: all, statement };
+        Case { policy: self.policy, program }
     }
 }
 

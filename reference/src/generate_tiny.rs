@@ -4,7 +4,7 @@
 use crate::generate_pair::refilled;
 use crate::generate_program::{label, Case};
 use crate::policy::{Policy, Row, Side};
-use crate::program::{Atom, Labels, Program};
+use crate::program::{Atom, Labels, Program, VERSIONS};
 use crate::rng::Rng;
 use crate::rules::Rules;
 use crate::shapes::labels;
@@ -35,7 +35,7 @@ pub fn tiny(rng: &mut Rng, rules: &Rules, taste: Taste) -> Option<Case> {
     let labels = some_labels(rng, &policy, taste, plain);
     let mut writer = Tiny { rng, rules, policy: &policy, taste, variables: labels.len() as u8 };
     let statement = writer.statement();
-    let mut program = Program { labels, statement };
+    let mut program = Program { version: *writer.rng.pick(&VERSIONS), labels, statement };
     let accepted = writer.repair(&mut program);
     accepted.then_some(Case { policy, program })
 }

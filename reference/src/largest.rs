@@ -5,7 +5,7 @@ use crate::encode::encode;
 use crate::generate_program::Case;
 use crate::policy::{Policy, Row, MOST_PRINCIPALS, MOST_ROLES};
 use crate::program::{
-    Atom, Kind, Labels, Operator, Program, Query, Statement, MOST_BYTES, MOST_LISTED,
+    Atom, Kind, Labels, Operator, Program, Query, Statement, Version, MOST_BYTES, MOST_LISTED,
     MOST_VARIABLES,
 };
 use crate::shapes::*;
@@ -27,7 +27,11 @@ fn policy() -> Policy {
 
 /// The program made around a statement that fills it up to the most bytes.
 fn full(labels: Vec<Labels>, make: impl Fn(Statement) -> Statement) -> Case {
-    let with = |filling| Program { labels: labels.clone(), statement: make(filling) };
+    let with = |filling| Program {
+        version: Version::One,
+        labels: labels.clone(),
+        statement: make(filling),
+    };
     let bytes = encode(&mut with(skip())).bytes.len();
     Case { policy: policy(), program: with(filling(MOST_BYTES + 1 - bytes)) }
 }

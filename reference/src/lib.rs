@@ -21,6 +21,7 @@ pub mod generate;
 pub mod generate_memory;
 pub mod generate_pair;
 pub mod generate_program;
+pub mod generate_quotients;
 pub mod generate_rules;
 pub mod generate_tiny;
 pub mod largest;

@@ -1,13 +1,13 @@
 //! Accepted programs with some part changed without regard to labels, so that a rule is just met
 //! or just missed, and noise. Nothing is promised of their numbers.
 
-use crate::encode::encode;
+use crate::encode::{encode, head};
 use crate::generate_program::{any, label, rich, with_fault, Case};
 use crate::generate_rules::{chain_of_queries, written_elsewhere};
 use crate::order::atoms;
 use crate::policy::Policy;
 use crate::program::{
-    Expression, Form, Program, Query, Statement, Transaction, MARK_AND_VERSION, MOST_LISTED,
+    Expression, Form, Program, Query, Statement, Transaction, MOST_LISTED, VERSIONS,
 };
 use crate::rng::Rng;
 use crate::shapes::*;
@@ -164,7 +164,7 @@ pub fn noise(rng: &mut Rng) -> (Policy, Vec<u8>) {
             bytes = rng.bytes(count);
         }
         1 => {
-            bytes = MARK_AND_VERSION.to_vec();
+            bytes = head(*rng.pick(&VERSIONS)).to_vec();
             let count = rng.below(64);
             bytes.extend((0..count).map(|_| small(rng)));
         }

@@ -3,7 +3,7 @@
 
 mod read;
 
-pub const MARK_AND_VERSION: [u8; 5] = *b"RXP\x01\x00";
+pub const MARK: [u8; 3] = *b"RXP";
 pub const MOST_BYTES: usize = 4096;
 pub const MOST_VARIABLES: u8 = 64;
 pub const MOST_MUTATIONS: u8 = 16;
@@ -18,8 +18,20 @@ pub struct Refusal {
     pub place: usize,
 }
 
+/// Which quotient a program has; nothing else depends on it.
+#[derive(Clone, Copy, Debug, PartialEq, Eq)]
+pub enum Version {
+    /// The fraction is dropped, towards zero.
+    One,
+    /// To the nearest whole number, halves away from zero.
+    Two,
+}
+
+pub const VERSIONS: [Version; 2] = [Version::One, Version::Two];
+
 #[derive(Clone, Debug, PartialEq, Eq)]
 pub struct Program {
+    pub version: Version,
     /// The labels of each variable.
     pub labels: Vec<Labels>,
     pub statement: Statement,
@@ -104,7 +116,34 @@ pub enum Operator {
     Equal,
 }
 
+pub const OPERATORS: [Operator; 6] = [
+    Operator::Sum,
+    Operator::Difference,
+    Operator::Product,
+    Operator::Quotient,
+    Operator::Less,
+    Operator::Equal,
+];
+
+impl Version {
+    pub fn other(self) -> Version {
+        match self {
+            Version::One => Version::Two,
+            Version::Two => Version::One,
+        }
+    }
+}
+
 impl Program {
+    /// Whether the operator stands anywhere in it.
+    pub fn has(&self, operator: Operator) -> bool {
+        let mut found = false;
+        self.statement.visit(&mut |statement| {
+            found |= statement.expression().is_some_and(|expression| expression.has(operator));
+        });
+        found
+    }
+
     /// The transactions in reading order, with those that stand in another.
     pub fn transactions(&self) -> Vec<&Transaction> {
         let mut found = Vec::new();
@@ -136,6 +175,15 @@ impl Statement {
         }
     }
 
+    /// What it assigns or tests.
+    pub fn expression(&self) -> Option<&Expression> {
+        match &self.form {
+            Form::Assign { expression, .. } => Some(expression),
+            Form::If { condition, .. } | Form::While { condition, .. } => Some(condition),
+            _ => None,
+        }
+    }
+
     /// This statement and all in it, in reading order.
     pub fn visit<'a>(&'a self, visitor: &mut impl FnMut(&'a Statement)) {
         visitor(self);
@@ -153,6 +201,16 @@ impl Transaction {
 }
 
 impl Expression {
+    /// Whether the operator stands anywhere in it.
+    pub fn has(&self, operator: Operator) -> bool {
+        match self {
+            Expression::Constant(_) | Expression::Variable(_) => false,
+            Expression::Binary(own, left, right) => {
+                *own == operator || left.has(operator) || right.has(operator)
+            }
+        }
+    }
+
     /// Each variable read, as often as it is.
     pub fn visit_variables(&self, visitor: &mut impl FnMut(u8)) {
         match self {

@@ -10,7 +10,7 @@ use crate::order::{atoms, Join, Order};
 use crate::policy::{Policy, Side, SIDES};
 use crate::program::{
     Atom, Expression, Kind, Labels, Mutation, Operator, Program, Query, Statement,
-    MOST_EXPRESSION_DEPTH, MOST_LISTED, MOST_MUTATIONS, MOST_STATEMENT_DEPTH,
+    MOST_EXPRESSION_DEPTH, MOST_LISTED, MOST_MUTATIONS, MOST_STATEMENT_DEPTH, OPERATORS, VERSIONS,
 };
 use crate::rng::Rng;
 use crate::shapes::*;
@@ -80,7 +80,7 @@ pub fn accepted(
 ) -> Program {
     let mut writer = Writer::new(rng, policy, &labels, most_bytes);
     let statement = writer.whole(rich);
-    Program { labels, statement }
+    Program { version: *rng.pick(&VERSIONS), labels, statement }
 }
 
 /// The same, rich, and written to be run: most loops count to a few, most listed queries hold at the
@@ -89,7 +89,7 @@ pub fn live(rng: &mut Rng, policy: &Policy, labels: Vec<Labels>, most_bytes: usi
     let mut writer = Writer::new(rng, policy, &labels, most_bytes);
     writer.live = true;
     let statement = writer.whole(true);
-    Program { labels, statement }
+    Program { version: *rng.pick(&VERSIONS), labels, statement }
 }
 
 /// A program with this fault at its first marked statement. The policy and the first labels are
@@ -104,7 +104,7 @@ pub fn faulty(
     let mut writer = Writer::new(rng, policy, &labels, most_bytes);
     writer.fault = Some((fault, writer.rng.below(12)));
     let statement = writer.whole(true);
-    Program { labels, statement }
+    Program { version: *rng.pick(&VERSIONS), labels, statement }
 }
 
 /// What `faulty` leans on: two principals and a role not all may join, and variables 0 to 2 with

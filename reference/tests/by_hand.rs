@@ -109,6 +109,8 @@ fn mark_and_version() {
     }
     assert_number(&edited(E, &[(2, 0x50)]), 2);
     assert_number(&edited(E, &[(3, 0), (4, 1)]), 2);
+    // Of programs there is a version 2, of policies there is not.
+    assert_number(&edited(E, &[(3, 2)]), 2);
 }
 
 #[test]

@@ -9,7 +9,7 @@ use std::thread;
 use std::time::Duration;
 
 use reference::encode::encode;
-use reference::program::{Program, Statement};
+use reference::program::{Program, Statement, Version};
 use reference::shapes::{filling, skip, OPEN};
 use reference::worked::E;
 
@@ -101,7 +101,7 @@ fn assert_printed(text: &str, (status, printed, said): (i32, String, String)) {
 
 /// A program with this many variables for everyone.
 fn program(variables: usize, statement: Statement) -> Vec<u8> {
-    encode(&mut Program { labels: vec![OPEN; variables], statement }).bytes
+    encode(&mut Program { version: Version::One, labels: vec![OPEN; variables], statement }).bytes
 }
 
 /// The text of a run of one unit that ends with these values.

@@ -117,6 +117,15 @@ fn each_is_described() {
     }
 }
 
+/// The two programs of allowances differ in the version alone, and the rest not at all.
+#[test]
+fn allowances_differ_in_the_version() {
+    let (one, two) = (Example::named("allowances"), Example::named("allowances_nearest"));
+    assert_eq!((one.program[3], two.program[3]), (0x01, 0x02));
+    assert_eq!((&one.program[..3], &one.program[4..]), (&two.program[..3], &two.program[4..]));
+    assert_eq!((one.policy, one.memory), (two.policy, two.memory));
+}
+
 /// As its words say, the damage shows at byte 14.
 #[test]
 fn damage_shows_at_its_place() {

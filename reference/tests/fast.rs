@@ -16,14 +16,17 @@ use reference::encode::encode;
 use reference::generate::{
     self, chain_back, chain_onward, circle, dense, encode as encode_policy, valid, valid_of_size,
 };
-use reference::generate_memory::{memory, wrong_memory};
+use reference::generate_memory::{memory, wrong_memory, CORNERS};
 use reference::generate_program::{any, live, rich, with_fault, Case};
+use reference::generate_quotients::dividing;
 use reference::generate_rules::{chain_of_queries, written_elsewhere};
 use reference::loosen::{loosened, noise};
-use reference::program::{Atom, Form, Kind, Mutation, Operator, Program, Query, Statement};
+use reference::program::{
+    Atom, Form, Kind, Mutation, Operator, Program, Query, Statement, Version, VERSIONS,
+};
 use reference::rng::Rng;
 use reference::rules::Rules;
-use reference::run::call::{call_by, MOST_FUEL};
+use reference::run::call::{bytes, call_by, MOST_FUEL};
 use reference::shapes::*;
 use reference::writer::FAULTS;
 use reference::{fast, flow, largest, policy, safe};
@@ -130,7 +133,9 @@ fn check_policy(bytes: &[u8], counts: &mut [usize; 8]) {
 fn opponents_agree_on_programs() {
     for counts in with_both_seeds(|mut rng| {
         let mut counts = [0; 23];
-        for case in largest() {
+        for mut case in largest() {
+            assert_eq!(check_case(case.clone(), &mut counts), 0);
+            case.program.version = Version::Two;
             assert_eq!(check_case(case, &mut counts), 0);
         }
         for _ in 0..VERDICTS {
@@ -231,6 +236,8 @@ struct Counts {
     changed_meanings: usize,
     /// A while ran its body more than twice.
     looped: usize,
+    /// A finished run of a program with a quotient, in version 1 and in version 2.
+    quotients: [usize; 2],
 }
 
 #[test]
@@ -244,6 +251,8 @@ fn opponents_agree_on_runs() {
             run_case(&mut rng, &case, &mut counts);
             let case = if rng.below(2) == 0 { rich(&mut rng) } else { any(&mut rng) };
             run_case(&mut rng, &case, &mut counts);
+            let case = dividing(&mut rng);
+            run_case(&mut rng, &case, &mut counts);
             refused_runs(&mut rng, &mut counts);
         }
         counts
@@ -256,6 +265,8 @@ fn opponents_agree_on_runs() {
         assert!(counts.rolled_back > 1_000, "{counts:?}");
         assert!(counts.changed_meanings > 3_000, "{counts:?}");
         assert!(counts.looped > 2_000, "{counts:?}");
+        let [one, two] = counts.quotients;
+        assert!(one > 1_000 && two > 1_000 && 4 * two >= one + two, "{counts:?}");
     }
 }
 
@@ -306,7 +317,7 @@ fn turmoil(rng: &mut Rng) -> Case {
     let rows = (0..roles).map(row).collect();
     let near = if rng.below(2) == 0 { roles } else { roles.min(6) };
     let statement = block((0..1 + rng.below(3)).map(|_| stormy(rng, roles, near)));
-    let program = Program { labels: vec![OPEN; 2], statement };
+    let program = Program { version: *rng.pick(&VERSIONS), labels: vec![OPEN; 2], statement };
     Case { policy: policy::Policy { principals: 32, rows }, program }
 }
 
@@ -414,7 +425,12 @@ fn stir(rng: &mut Rng, policy: &policy::Policy, statement: &mut Statement) {
 fn run_case(rng: &mut Rng, case: &Case, counts: &mut Counts) {
     let Case { policy, program } = case;
     let input = input(rng, policy, program);
+    let finished = counts.numbers[0];
     let units = check_run(rng, &input, counts);
+    if program.has(Operator::Quotient) {
+        let version = usize::from(program.version == Version::Two);
+        counts.quotients[version] += counts.numbers[0] - finished;
+    }
     let wrong_fuel = *rng.pick(&[0, MOST_FUEL + 1, u32::MAX]);
     let some = 1 + rng.below(units.max(1) as usize) as u32;
     for fuel in [units, units.saturating_sub(1), some, wrong_fuel] {
@@ -459,6 +475,29 @@ fn refused_runs(rng: &mut Rng, counts: &mut Counts) {
     let memory = memory(rng, variables);
     let (policy, program) = made;
     check_run(rng, &Input { policy, program, memory, fuel: PLENTY }, counts);
+}
+
+/// Every two values at corners, in both versions.
+#[test]
+fn opponents_agree_on_quotients() {
+    let mut counts = Counts::default();
+    let mut rng = Rng::new(1);
+    let policy = encode_policy(&valid_of_size(&mut rng, 2, 1));
+    let by = |left, right| binary(Operator::Quotient, variable(left), variable(right));
+    let twice = binary(Operator::Sum, by(0, 1), binary(Operator::Product, by(1, 0), constant(3)));
+    for version in VERSIONS {
+        let statement = block([assign(2, by(0, 1)), assign(3, twice.clone())]);
+        let mut program = Program { version, labels: vec![OPEN; 4], statement };
+        let program = encode(&mut program).bytes;
+        for left in CORNERS {
+            for right in CORNERS {
+                let (policy, program) = (policy.clone(), program.clone());
+                let memory = bytes(&[left, right, 99, 99]);
+                check_run(&mut rng, &Input { policy, program, memory, fuel: 2 }, &mut counts);
+            }
+        }
+    }
+    assert_eq!(counts.numbers[0], 2 * CORNERS.len() * CORNERS.len(), "{counts:?}");
 }
 
 /// Gives the units.

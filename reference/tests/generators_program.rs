@@ -7,14 +7,19 @@ mod common {
 
 use common::seeds::with_both_seeds;
 use reference::damage_program::*;
-use reference::encode::encode;
+use reference::encode::{encode, Part};
 use reference::flow::check;
-use reference::generate_program::{self, any, live, rich, with_fault, Case};
+use reference::generate_program::{self, any, live, rich, small, with_fault, Case};
+use reference::generate_quotients::dividing;
 use reference::generate_rules::{chain_of_queries, written_elsewhere};
+use reference::generate_tiny::{tiny, TASTES};
 use reference::largest;
+use reference::loosen::loosened;
 use reference::order::{atoms, Join, Order};
 use reference::policy::Policy;
-use reference::program::{Atom, Form, Program, Query, Refusal, MOST_BYTES};
+use reference::program::{Atom, Form, Operator, Program, Query, Refusal, MOST_BYTES, VERSIONS};
+use reference::rng::Rng;
+use reference::rules::Rules;
 use reference::writer::FAULTS;
 
 const TRIES: usize = 1_000;
@@ -22,7 +27,7 @@ const TRIES: usize = 1_000;
 #[test]
 fn accepted_programs_are_read_as_they_are_and_accepted() {
     with_both_seeds(|mut rng| {
-        for make in [any, rich, live] {
+        for make in [any, rich, live, dividing] {
             for _ in 0..TRIES {
                 let Case { policy, mut program } = make(&mut rng);
                 let file = encode(&mut program);
@@ -107,6 +112,81 @@ fn damage_has_its_number_at_its_place() {
             for _ in 0..TRIES {
                 assert_refused("", make(&mut rng));
             }
+        }
+    });
+}
+
+/// Each version comes up in at least a quarter of all programs, and of those with a quotient.
+#[test]
+fn programs_are_of_both_versions() {
+    with_both_seeds(|mut rng| {
+        let written_elsewhere = |rng: &mut Rng| written_elsewhere(rng).0;
+        let chain_of_queries = |rng: &mut Rng| chain_of_queries(rng).0;
+        let faulty = |rng: &mut Rng| {
+            let fault = *rng.pick(&FAULTS);
+            with_fault(rng, fault)
+        };
+        let tiny = |rng: &mut Rng| loop {
+            let taste = *rng.pick(&TASTES);
+            if let Some(case) = tiny(rng, &Rules::default(), taste) {
+                return case;
+            }
+        };
+        // Of those with a quotient at least so many are to be among so many programs.
+        type Make = (&'static str, fn(&mut Rng) -> Case, usize);
+        let makes: [Make; 10] = [
+            ("any", any, 50),
+            ("rich", rich, 50),
+            ("live", live, 100),
+            ("small", small, 10),
+            ("loosened", loosened, 20),
+            ("dividing", dividing, TRIES / 2),
+            ("faulty", faulty, 50),
+            ("written elsewhere", written_elsewhere, 0),
+            ("chain of queries", chain_of_queries, 0),
+            ("tiny", tiny, 0),
+        ];
+        for (name, make, least_with_quotient) in makes {
+            let programs: Vec<Program> = (0..TRIES).map(|_| make(&mut rng).program).collect();
+            let with_quotient =
+                || programs.iter().filter(|program| program.has(Operator::Quotient));
+            assert!(with_quotient().count() >= least_with_quotient, "{name}");
+            for version in VERSIONS {
+                let is_own = |program: &&Program| program.version == version;
+                let own = programs.iter().filter(is_own).count();
+                assert!(4 * own >= TRIES, "{name}: {own} of {version:?}");
+                let own = with_quotient().filter(is_own).count();
+                let all = with_quotient().count();
+                assert!(4 * own >= all, "{name}: {own} of {all} with a quotient of {version:?}");
+            }
+        }
+    });
+}
+
+/// The bytes of the version are wrong in every way, in programs of both versions, and cut off between.
+#[test]
+fn damage_hits_the_version_in_every_way() {
+    with_both_seeds(|mut rng| {
+        let (mut low, mut high, mut cut) = ([0; 256], [[0; 256]; 3], [[0; 6]; 3]);
+        for _ in 0..4 * TRIES {
+            let refused = wrong_part(&mut rng, Part::Version);
+            assert_eq!(refused.refusal, Refusal { number: 11, place: 3 });
+            low[usize::from(refused.bytes[3])] += 1;
+            let refused = wrong_part(&mut rng, Part::VersionHigh);
+            assert_eq!(refused.refusal, Refusal { number: 11, place: 4 });
+            high[usize::from(refused.bytes[3])][usize::from(refused.bytes[4])] += 1;
+            let Refused { bytes, refusal, .. } = ends_early(&mut rng);
+            assert_eq!(refusal, Refusal { number: 10, place: bytes.len() });
+            if let 4 | 5 = bytes.len() {
+                cut[usize::from(bytes[3])][bytes.len()] += 1;
+            }
+        }
+        assert!([0, 3, 255].iter().all(|byte| low[*byte] > 0), "{low:?}");
+        assert_eq!([low[1], low[2]], [0, 0]);
+        for version in [1, 2] {
+            let [high, cut] = [&high[version][..], &cut[version]];
+            assert!([1, 2, 255].iter().all(|byte| high[*byte] > 0), "{version}: {high:?}");
+            assert!(high[0] == 0 && cut[4] > 0 && cut[5] > 0, "{version}: {cut:?}");
         }
     });
 }

@@ -8,6 +8,8 @@ use reference::flow;
 use reference::policy;
 use reference::proved;
 use reference::proved_program;
+use reference::rules::Rules;
+use reference::run::call::call_by;
 
 const DOCUMENT: &str = include_str!("../../docs/LANGUAGE.md");
 
@@ -69,6 +71,12 @@ fn rows(section: &str) -> Vec<Vec<String>> {
         .collect()
 }
 
+/// The statement that a row gives, in a whole file of this version.
+fn whole(version: u8, labels: &[u8], statement: &[u8]) -> Vec<u8> {
+    let head = [0x52, 0x58, 0x50, version, 0x00, (labels.len() / 2) as u8];
+    [&head, labels, statement].concat()
+}
+
 fn held(policy: &[u8], program: &[u8], expected: (u32, usize)) {
     assert_eq!(flow::verdict(policy, program), expected, "reference: {program:02X?}");
     assert_eq!(proved_program::verdict(policy, program), expected, "proved: {program:02X?}");
@@ -116,8 +124,32 @@ fn readings() {
     for row in rows.iter().filter(given) {
         held(&files["E"], &bytes(&row[0]), (row[1].parse().unwrap(), row[2].parse().unwrap()));
     }
-    assert_eq!(rows.iter().filter(given).count(), 16);
+    assert_eq!(rows.iter().filter(given).count(), 18);
     held(&files["E"], &files["first program"], (0, 0));
+}
+
+/// Each row's quotient, of two constants, in both versions.
+#[test]
+fn quotients() {
+    let policy = &files()["E"];
+    let number = |cell: &str| cell.replace('\u{2212}', "-").parse::<i32>().unwrap();
+    let mut seen = 0;
+    for row in rows("Values and operators") {
+        let Some((left, right)) = row[0].split_once(" by ") else { continue };
+        let constant = |cell| [&[0x00], &number(cell).to_le_bytes()[..]].concat();
+        let statement = [&[0x01, 0x00, 0x05], &constant(left)[..], &constant(right)].concat();
+        for version in [1, 2] {
+            let program = whole(version, &[0xFF, 0xFF], &statement);
+            let expected = number(&row[usize::from(version)]).to_le_bytes();
+            let memory = call_by(&Rules::default(), policy, &program, &[9; 4], 1).0.memory;
+            assert_eq!(memory, expected, "reference: {row:?}, version {version}");
+            let (mut policy, mut memory) = (policy.clone(), [9; 4]);
+            let found = proved_program::run(&mut policy, &program, &mut memory, 1);
+            assert_eq!((found, memory), ((0, 1), expected), "proved: {row:?}, version {version}");
+        }
+        seen += 1;
+    }
+    assert_eq!(seen, 13);
 }
 
 #[test]
@@ -127,15 +159,14 @@ fn verdicts() {
     for section in ["Assign, if, while", "Query", "Update and transaction"] {
         for row in rows(section).iter().filter(|row| ["E", "O", "H"].contains(&&*row[0])) {
             let labels = if row[1] == "none" { vec![] } else { bytes(&row[1]) };
-            let mut program = bytes("52 58 50 01 00");
-            program.push((labels.len() / 2) as u8);
-            program.extend(labels);
-            program.extend(bytes(&row[2]));
             let expected = match row[3].split_once(" at ") {
                 Some((number, place)) => (number.parse().unwrap(), place.parse().unwrap()),
                 None => (row[3].parse().unwrap(), 0),
             };
-            held(&named(&files, &row[0]), &program, expected);
+            for version in [1, 2] {
+                let program = whole(version, &labels, &bytes(&row[2]));
+                held(&named(&files, &row[0]), &program, expected);
+            }
             seen += 1;
         }
     }

@@ -7,7 +7,9 @@ use reference::encode::encode;
 use reference::flow;
 use reference::generate;
 use reference::policy::{Policy, Row, Side, SIDES};
-use reference::program::{Atom, Form, Kind, Labels, Program, Query, Statement, Transaction};
+use reference::program::{
+    Atom, Form, Kind, Labels, Program, Query, Statement, Transaction, Version,
+};
 use reference::rules::Rules;
 use reference::run::{self, call, set, End};
 use reference::shapes::*;
@@ -147,7 +149,11 @@ fn policy(roles: &[(u32, u32)]) -> Policy {
 fn differing_in_v0(roles: &[(u32, u32)], v0: Atom, v1: Atom, statement: Statement) -> Pair {
     Pair {
         policies: [policy(roles), policy(roles)],
-        program: Program { labels: vec![read_by(v0), read_by(v1)], statement },
+        program: Program {
+            version: Version::One,
+            labels: vec![read_by(v0), read_by(v1)],
+            statement,
+        },
         memories: [vec![0, 0], vec![1, 0]],
     }
 }
@@ -156,7 +162,7 @@ fn differing_in_v0(roles: &[(u32, u32)], v0: Atom, v1: Atom, statement: Statemen
 fn differing_in_policy(policies: [Policy; 2], statement: Statement) -> Pair {
     Pair {
         policies,
-        program: Program { labels: vec![OPEN], statement },
+        program: Program { version: Version::One, labels: vec![OPEN], statement },
         memories: [vec![0], vec![0]],
     }
 }
@@ -381,6 +387,7 @@ fn members_judged_on_one_side() {
     let exhibit = Pair {
         policies: [policy(&[(OTHER, OBSERVER)]), policy(&[(OTHER, BOTH)])],
         program: Program {
+            version: Version::One,
             labels: vec![read_by(R0)],
             statement: asking(Query(R0, Atom::Everyone), assign(0, constant(1)), skip()),
         },

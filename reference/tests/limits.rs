@@ -7,7 +7,7 @@ use reference::encode::encode;
 use reference::flow;
 use reference::generate;
 use reference::policy::{Policy, Row};
-use reference::program::Program;
+use reference::program::{Program, Version};
 use reference::proved_program as proved;
 use reference::shapes::filling;
 
@@ -45,7 +45,8 @@ fn ending_with(statement: &[u8]) -> Vec<u8> {
     let mut bytes = head();
     bytes.extend([0x02, 0x02]);
     let skips = filling(4096 - bytes.len() - statement.len());
-    let skips = encode(&mut Program { labels: vec![], statement: skips }).bytes;
+    let skips =
+        encode(&mut Program { version: Version::One, labels: vec![], statement: skips }).bytes;
     bytes.extend(&skips[6..]);
     bytes.extend(statement);
     assert_eq!(bytes.len(), 4096);
@@ -92,7 +93,13 @@ fn with(mut bytes: Vec<u8>, at: usize, byte: u8) -> Vec<u8> {
     bytes
 }
 
+/// In both versions.
 fn assert_verdict(program: &[u8], expected: (u32, usize), body: (usize, usize)) {
+    assert_own_verdict(program, expected, body);
+    assert_own_verdict(&with(program.to_vec(), 3, 2), expected, body);
+}
+
+fn assert_own_verdict(program: &[u8], expected: (u32, usize), body: (usize, usize)) {
     let policy = &policy();
     let shown = || format!("{program:02x?}");
     assert_eq!(flow::verdict(policy, program), expected, "reference: {}", shown());

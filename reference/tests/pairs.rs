@@ -18,7 +18,7 @@ use reference::generate_pair::{differing_in_hidden, observers};
 use reference::generate_program::{live, Case};
 use reference::generate_tiny::{tiny, TASTES};
 use reference::policy::Policy;
-use reference::program::Program;
+use reference::program::{Operator, Program, Version};
 use reference::rng::Rng;
 use reference::rules::Rules;
 use reference::run::call::{bytes, values, Answer};
@@ -43,6 +43,8 @@ fn hidden_starts_do_not_show_in_the_ends() {
             ("rolled back differently", counts.rolled_back, 5),
             ("ended differently where it is hidden", counts.hidden_ends, 50),
             ("groups", counts.groups, 1),
+            ("quotients of version 1", counts.quotients[0], 10),
+            ("quotients of version 2", counts.quotients[1], 10),
         ] {
             let least = counts.judged * least_percent / 100;
             assert!(count >= least, "{what}: {count} of {}", counts.judged);
@@ -63,6 +65,8 @@ struct Counts {
     hidden_ends: usize,
     /// Several principals look together.
     groups: usize,
+    /// The program has a quotient, in version 1 and in version 2.
+    quotients: [usize; 2],
 }
 
 struct Pairs {
@@ -141,5 +145,8 @@ impl Pairs {
         self.counts.rolled_back += usize::from(first.1.rollbacks != second.1.rollbacks);
         self.counts.hidden_ends += usize::from(ends[0] != ends[1]);
         self.counts.groups += usize::from(observer.principals.count_ones() > 1);
+        if pair.program.has(Operator::Quotient) {
+            self.counts.quotients[usize::from(pair.program.version == Version::Two)] += 1;
+        }
     }
 }

@@ -22,7 +22,7 @@ use reference::generate_rules::{chain_of_queries, written_elsewhere};
 use reference::largest::{assignments, known_queries, nested_queries, skips, transactions};
 use reference::loosen::{loosened, noise};
 use reference::policy::Policy;
-use reference::program::{Form, Program};
+use reference::program::{Form, Program, Version};
 use reference::proved_program as proved;
 use reference::rng::Rng;
 use reference::writer::FAULTS;
@@ -60,6 +60,21 @@ fn proved_library_agrees_on_random_programs() {
     }
 }
 
+/// How many of each kind are asked about in both versions, with each seed.
+const IN_BOTH_VERSIONS: usize = 300;
+
+/// The verdict does not depend on the version: with byte 3 as in the other one number and place are the
+/// same, also where a file is refused before that byte or right behind it.
+#[test]
+fn verdicts_do_not_depend_on_the_version() {
+    for answers in with_both_seeds(|rng| Run::new(rng).in_both_versions()) {
+        println!("in both versions, answers by number {answers:?}");
+        for number in [0].into_iter().chain(10..=18) {
+            assert!(answers[number] >= IN_BOTH_VERSIONS / 2, "number {number}: {answers:?}");
+        }
+    }
+}
+
 #[derive(Default)]
 struct Counts {
     programs: usize,
@@ -90,10 +105,63 @@ impl Run {
         self.counts
     }
 
+    /// Gives how often each of 0 to 18 came up.
+    fn in_both_versions(mut self) -> [usize; 19] {
+        let mut answers = [0; 19];
+        for _ in 0..IN_BOTH_VERSIONS {
+            for case in self.readable() {
+                let Case { policy, mut program } = case;
+                let bytes = encode(&mut program).bytes;
+                self.in_other_version(&policy, bytes, &mut answers);
+            }
+            for refused in self.unreadable() {
+                self.in_other_version(&refused.policy, refused.bytes, &mut answers);
+            }
+            let (policy, bytes) = noise(&mut self.rng);
+            self.in_other_version(&policy, bytes, &mut answers);
+        }
+        answers
+    }
+
+    /// One of each kind, accepted or refused by a flow rule.
+    fn readable(&mut self) -> Vec<Case> {
+        let rng = &mut self.rng;
+        let made = [any, rich, small, loosened].map(|make| make(rng));
+        let rules = [written_elsewhere, chain_of_queries].map(|make| make(rng).0);
+        let faults = FAULTS.map(|fault| with_fault(rng, fault));
+        made.into_iter().chain(rules).chain(faults).collect()
+    }
+
+    /// One of each kind that is refused in reading.
+    fn unreadable(&mut self) -> Vec<Refused> {
+        let rng = &mut self.rng;
+        let parts = PARTS.map(|part| wrong_part(rng, part));
+        let damage = DAMAGE.map(|(_, make)| make(rng));
+        parts.into_iter().chain(damage).collect()
+    }
+
+    /// Compares the file in both versions, if byte 3 has one of them.
+    fn in_other_version(&mut self, policy: &Policy, bytes: Vec<u8>, answers: &mut [usize; 19]) {
+        let other = match bytes.get(3) {
+            Some(0x01) => 0x02,
+            Some(0x02) => 0x01,
+            _ => return,
+        };
+        let policy = encode_policy(policy);
+        let found = self.compare("own version", &policy, &bytes);
+        let mut in_other = bytes;
+        in_other[3] = other;
+        let in_other_found = self.compare("other version", &policy, &in_other);
+        assert_eq!(found, in_other_found, "reference: {policy:02x?} {in_other:02x?}");
+        answers[found.0 as usize] += 1;
+    }
+
     fn accepted(&mut self) {
         let largest = [skips(), assignments(), transactions(), nested_queries(), known_queries()];
-        for case in largest {
-            self.expect_case("largest", 0, case);
+        for mut case in largest {
+            self.expect_case("largest", 0, case.clone());
+            case.program.version = Version::Two;
+            self.expect_case("largest, version 2", 0, case);
         }
         for _ in 0..ANY {
             let case = any(&mut self.rng);

@@ -11,7 +11,7 @@ use reference::encode::encode;
 use reference::flow;
 use reference::generate::valid_of_size;
 use reference::policy::{Policy, Row};
-use reference::program::{Atom, Kind, Labels, Program, Query, Statement};
+use reference::program::{Atom, Kind, Labels, Program, Query, Statement, Version};
 use reference::proved_program as proved;
 use reference::shapes::*;
 use reference::worked::{E, F};
@@ -62,7 +62,27 @@ fn program(labels: &[u8], statement: &[u8]) -> Vec<u8> {
     bytes
 }
 
+/// A program with byte 3 as in the other version, if it has one of the two there.
+fn in_other_version(program: &[u8]) -> Option<Vec<u8>> {
+    let other = match program.get(3)? {
+        0x01 => 0x02,
+        0x02 => 0x01,
+        _ => return None,
+    };
+    let mut program = program.to_vec();
+    program[3] = other;
+    Some(program)
+}
+
+/// The verdict does not depend on the version: all that is written here holds in both.
 fn assert_verdict(policy: &[u8], program: &[u8], expected: (u32, usize)) {
+    assert_own_verdict(policy, program, expected);
+    if let Some(other) = in_other_version(program) {
+        assert_own_verdict(policy, &other, expected);
+    }
+}
+
+fn assert_own_verdict(policy: &[u8], program: &[u8], expected: (u32, usize)) {
     let shown = || format!("{program:02x?} under {policy:02x?}");
     assert_eq!(flow::verdict(policy, program), expected, "reference: {}", shown());
     assert_eq!(proved::program(policy, program), expected.0, "proved: {}", shown());
@@ -94,7 +114,7 @@ fn assert_accepted(labels: &[u8], statement: &[u8]) {
 
 /// A tree under policy G: accepted with 0, else refused with the number at the marked statement.
 fn assert_tree(labels: &[Labels], statement: Statement, number: u32) {
-    let mut program = Program { labels: labels.to_vec(), statement };
+    let mut program = Program { version: Version::One, labels: labels.to_vec(), statement };
     let file = encode(&mut program);
     let place = match number {
         0 => 0,
@@ -158,8 +178,69 @@ fn mark_and_version_byte_by_byte() {
         assert_verdict(&E, &file[..=at], (MARK, at));
     }
     assert_verdict(&E, &[0x52, 0x59], (MARK, 1));
-    assert_verdict(&E, &[0x52, 0x58, 0x50, 0x02], (MARK, 3));
     assert_verdict(&E, &E, (MARK, 2));
+}
+
+/// Version 1 or 2; byte 3 is judged before byte 4 is looked for.
+#[test]
+fn versions_byte_by_byte() {
+    let mark = [0x52, 0x58, 0x50];
+    let with = |more: &[u8]| [mark.as_slice(), more].concat();
+    assert_own_verdict(&E, &mark, (LENGTH, 3));
+    for (more, number, place) in [
+        // Either version alone ends early, also with its second byte.
+        (&[0x01][..], LENGTH, 4),
+        (&[0x02], LENGTH, 4),
+        (&[0x01, 0x00], LENGTH, 5),
+        (&[0x02, 0x00], LENGTH, 5),
+        (&[0x02, 0x00, 0x00], LENGTH, 6),
+        (&[0x01, 0x00, 0x00, 0x00], 0, 0),
+        (&[0x02, 0x00, 0x00, 0x00], 0, 0),
+        (&[0x00], MARK, 3),
+        (&[0x03], MARK, 3),
+        (&[0xFF], MARK, 3),
+        (&[0x03, 0x00, 0x00, 0x00], MARK, 3),
+        // The bytes of 1 and of 2 exchanged, and what is 2 but for its high bits.
+        (&[0x00, 0x01, 0x00, 0x00], MARK, 3),
+        (&[0x00, 0x02, 0x00, 0x00], MARK, 3),
+        (&[0x82, 0x00, 0x00, 0x00], MARK, 3),
+        (&[0x01, 0x01], MARK, 4),
+        (&[0x02, 0x01], MARK, 4),
+        (&[0x02, 0x02], MARK, 4),
+        (&[0x02, 0xFF], MARK, 4),
+        (&[0x01, 0x02, 0x00, 0x00], MARK, 4),
+        (&[0x02, 0x01, 0x00, 0x00], MARK, 4),
+        // Both wrong: the first shows.
+        (&[0x03, 0x01, 0x00, 0x00], MARK, 3),
+        (&[0x00, 0x00, 0x00, 0x00], MARK, 3),
+        // Right, so what follows shows.
+        (&[0x02, 0x00, 0x41], RANGE, 5),
+        (&[0x02, 0x00, 0x00, 0x08], CODE, 6),
+        (&[0x02, 0x00, 0x00, 0x00, 0x00], LENGTH, 7),
+    ] {
+        assert_own_verdict(&E, &with(more), (number, place));
+    }
+    for byte in 0..=0xFF {
+        let right = byte == 0x01 || byte == 0x02;
+        let expected = if right { (0, 0) } else { (MARK, 3) };
+        assert_own_verdict(&E, &with(&[byte, 0x00, 0x00, 0x00]), expected);
+        for low in [0x01, 0x02] {
+            let expected = if byte == 0x00 { (0, 0) } else { (MARK, 4) };
+            assert_own_verdict(&E, &with(&[low, byte, 0x00, 0x00]), expected);
+        }
+    }
+}
+
+/// Versions of programs and of policies do not meet: a policy of version 2 is refused as before, and a
+/// program of version 2 is read under one of version 1.
+#[test]
+fn policy_version_stays() {
+    let mut policy = E;
+    policy[3] = 0x02;
+    for version in [0x01, 0x02, 0x03] {
+        assert_own_verdict(&policy, &[0x52, 0x58, 0x50, version, 0, 0, 0], (2, 0));
+    }
+    assert_own_verdict(&E, &[0x52, 0x58, 0x50, 0x02, 0, 0, 0], (0, 0));
 }
 
 #[test]
@@ -173,14 +254,18 @@ fn policy_before_program() {
 fn length() {
     assert_verdict(&E, &program(&[], &[0x00, 0x00]), (LENGTH, 7));
     assert_verdict(&E, &program(&[], &[0x02, 0x01, 0x00, 0xFF, 0xFF]), (LENGTH, 9));
-    let mut full = encode(&mut Program { labels: vec![], statement: filling(4090) }).bytes;
+    let mut full =
+        encode(&mut Program { version: Version::One, labels: vec![], statement: filling(4090) })
+            .bytes;
     assert_eq!(full.len(), 4096);
     assert_verdict(&E, &full, (0, 0));
     full.push(0x00);
     assert_verdict(&E, &full, (LENGTH, 4096));
     full[0] = 0;
     assert_verdict(&E, &full, (LENGTH, 4096));
-    let longer = encode(&mut Program { labels: vec![], statement: filling(4091) }).bytes;
+    let longer =
+        encode(&mut Program { version: Version::One, labels: vec![], statement: filling(4091) })
+            .bytes;
     assert_eq!(longer.len(), 4097);
     assert_verdict(&E, &longer, (LENGTH, 4096));
     assert_verdict(&E, &vec![0xFF; 100_000], (LENGTH, 4096));
@@ -347,7 +432,7 @@ fn expression_depth_in_deep_statements() {
         for _ in 0..100 {
             let deepest = assign(0, nested_expression(&mut rng, 16));
             let statement = nested(&mut rng, query, 31, deepest);
-            let mut program = Program { labels: vec![OPEN], statement };
+            let mut program = Program { version: Version::One, labels: vec![OPEN], statement };
             let file = encode(&mut program);
             assert_eq!(file.too_deep, None);
             let policy = valid_of_size(&mut rng, 2, 0);

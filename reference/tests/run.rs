@@ -19,8 +19,9 @@ use reference::encode::encode;
 use reference::generate::encode as encode_policy;
 use reference::generate_memory::{memory, wrong_memory};
 use reference::generate_program::{any, live, rich, with_fault, Case};
+use reference::generate_quotients::dividing;
 use reference::loosen::{loosened, noise};
-use reference::program::{Form, Program, Statement};
+use reference::program::{Form, Operator, Program, Statement, Version};
 use reference::rng::Rng;
 use reference::run::call::{Answer, MOST_FUEL};
 use reference::run::trace::Trace;
@@ -30,6 +31,7 @@ use reference::writer::FAULTS;
 const LIVE: usize = 12_000;
 const RICH: usize = 3_000;
 const ANY: usize = 1_000;
+const DIVIDING: usize = 3_000;
 const EACH_FAULT: usize = 520;
 const EACH_PART: usize = 520;
 const EACH_DAMAGE: usize = 260;
@@ -44,6 +46,8 @@ const SELDOM: usize = 64;
 
 const LEAST_RUNS: usize = 100_000;
 const LEAST_OF_EACH_NUMBER: usize = 500;
+const LEAST_RUNS_OF_QUOTIENTS: usize = 20_000;
+const LEAST_TOLD_APART: usize = 1_000;
 
 #[test]
 fn proved_run_agrees_on_random_runs() {
@@ -55,6 +59,7 @@ fn proved_run_agrees_on_random_runs() {
             assert!(count >= LEAST_OF_EACH_NUMBER, "number {number} came up {count} times");
         }
         counts.live.assert_worth_running();
+        counts.quotients.assert_both_versions();
     }
 }
 
@@ -64,6 +69,34 @@ struct Counts {
     /// How often each of 0 to 22 came up where the way the input was made gives it.
     by_construction: [usize; 23],
     live: Live,
+    quotients: Quotients,
+}
+
+/// Of the accepted programs that have a quotient.
+#[derive(Debug, Default)]
+struct Quotients {
+    runs: usize,
+    /// Those of version 2.
+    runs_of_version_2: usize,
+    /// Programs, and those that end otherwise in the other version.
+    programs: usize,
+    told_apart: usize,
+}
+
+impl Quotients {
+    fn count(&mut self, version: Version, runs: usize) {
+        self.runs += runs;
+        if version == Version::Two {
+            self.runs_of_version_2 += runs;
+        }
+    }
+
+    fn assert_both_versions(&self) {
+        assert!(self.runs >= LEAST_RUNS_OF_QUOTIENTS, "{self:?}");
+        assert!(4 * self.runs_of_version_2 >= self.runs, "{self:?}");
+        assert!(4 * (self.runs - self.runs_of_version_2) >= self.runs, "{self:?}");
+        assert!(self.told_apart >= LEAST_TOLD_APART, "{self:?}");
+    }
 }
 
 /// Of the programs that are written to be run: how many there were, and how many of them did what.
@@ -147,6 +180,10 @@ impl Runs {
             let case = any(&mut self.rng);
             self.accepted("any", &case);
         }
+        for _ in 0..DIVIDING {
+            let case = dividing(&mut self.rng);
+            self.accepted("dividing", &case);
+        }
         self.refused_programs();
         self.refused_policies();
         self.of_unknown_number();
@@ -156,6 +193,7 @@ impl Runs {
     /// An accepted program, with all kinds of fuel and wrong memories. A run that finishes does so
     /// with its units and any more, and is spent with any less. Gives what it does with plenty.
     fn accepted(&mut self, kind: &str, case: &Case) -> (Answer, Trace) {
+        let runs_before = self.counts.runs;
         let bytes = encode(&mut case.program.clone()).bytes;
         let memory = memory(&mut self.rng, case.program.labels.len());
         let input = Input { policy: encode_policy(&case.policy), program: bytes, memory, fuel: 0 };
@@ -165,7 +203,23 @@ impl Runs {
             _ => self.spent(kind, &input),
         }
         self.wrong_memory_or_fuel(kind, &input);
+        if case.program.has(Operator::Quotient) {
+            let runs = self.counts.runs - runs_before;
+            self.counts.quotients.count(case.program.version, runs);
+            self.in_other_version(kind, &case.program, Input { fuel: PLENTY, ..input }, &first.0);
+        }
         first
+    }
+
+    /// The run that gave this answer once more in the other version, where quotients may come out otherwise,
+    /// and all that hangs on them.
+    fn in_other_version(&mut self, kind: &str, program: &Program, input: Input, answer: &Answer) {
+        let mut other = Program { version: program.version.other(), ..program.clone() };
+        let input = Input { program: encode(&mut other).bytes, ..input };
+        let (found, _) = self.compare(kind, &input);
+        self.counts.quotients.count(other.version, 1);
+        self.counts.quotients.programs += 1;
+        self.counts.quotients.told_apart += usize::from(&found != answer);
     }
 
     fn around_its_units(&mut self, kind: &str, input: &Input, units: u32) {

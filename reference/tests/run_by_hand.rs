@@ -9,7 +9,7 @@ use common::compared::{compare, Input};
 use reference::encode::encode;
 use reference::generate::encode as encode_policy;
 use reference::policy::Policy;
-use reference::program::{Atom, Expression, Kind, Operator, Program, Query};
+use reference::program::{Atom, Expression, Kind, Operator, Program, Query, Version, VERSIONS};
 use reference::rng::Rng;
 use reference::rules::Rules;
 use reference::run::call::{bytes, Answer};
@@ -36,7 +36,7 @@ fn answer(number: u32, units: u32, policy: &[u8], memory: &[i32]) -> Answer {
 fn on_f(query: Query) -> Program {
     let first = block([update([mutation(Kind::DeleteTaken, 0, 1)]), assign(0, constant(1))]);
     let statement = transaction([query], ask(query, first, skip()));
-    Program { labels: vec![OPEN], statement }
+    Program { version: Version::One, labels: vec![OPEN], statement }
 }
 
 /// Policy F, whose role 0 takes no role any more.
@@ -73,7 +73,7 @@ fn memory_goes_back() {
     let lost = update([mutation(Kind::DeleteTaken, 0, 1)]);
     let body = ask(query, block([assign(0, constant(1)), lost]), skip());
     let statement = block([assign(1, constant(2)), transaction([query], body)]);
-    let program = Program { labels: vec![OPEN; 2], statement };
+    let program = Program { version: Version::One, labels: vec![OPEN; 2], statement };
     // The assignment; a start, the query, an assignment, the update; a restart, the query, its skip.
     assert_eq!(run_on(&F, program.clone(), &[7, 8], 8), answer(0, 8, &f_after(), &[7, 2]));
     assert_eq!(run_on(&F, program, &[7, 8], 7), answer(22, 7, &F, &[7, 8]));
@@ -88,7 +88,7 @@ fn memory_goes_back_in_the_second() {
     let body = ask(query, block([assign(0, constant(1)), lost]), skip());
     let first = transaction([], assign(2, constant(3)));
     let statement = block([first, assign(1, constant(2)), transaction([query], body)]);
-    let program = Program { labels: vec![OPEN; 3], statement };
+    let program = Program { version: Version::One, labels: vec![OPEN; 3], statement };
     // A start, an assignment; an assignment; then as above.
     assert_eq!(run_on(&F, program.clone(), &[7, 8, 9], 10), answer(0, 10, &f_after(), &[7, 2, 3]));
     assert_eq!(run_on(&F, program, &[7, 8, 9], 9), answer(22, 9, &F, &[7, 8, 9]));
@@ -116,20 +116,38 @@ fn updates_on_f() {
 #[test]
 fn worked_sum() {
     let statement = assign(1, binary(Operator::Sum, variable(0), constant(5)));
-    let program = Program { labels: vec![OPEN, labels(R0, R0)], statement };
+    let program = Program { version: Version::One, labels: vec![OPEN, labels(R0, R0)], statement };
     let found = run_on(&E, program, &[7, 0], 1_000_000);
     assert_eq!(found, answer(0, 1, &E, &[7, 12]));
 }
 
+/// Quotients in both versions; every other operator gives the same in both.
 #[test]
 fn values() {
+    use Version::{One, Two};
+    for (version, left, right, expected) in [
+        (One, 7, 2, 3),
+        (Two, 7, 2, 4),
+        (One, -7, 2, -3),
+        (Two, -7, 2, -4),
+        (One, 7, -2, -3),
+        (Two, 7, -2, -4),
+        (One, 5, 10, 0),
+        (Two, 5, 10, 1),
+        (One, -1, 3, 0),
+        (Two, -1, 3, 0),
+        (One, 7, 0, 0),
+        (Two, 7, 0, 0),
+        (One, i32::MIN, 0, 0),
+        (Two, i32::MIN, 0, 0),
+        (One, i32::MIN, -1, i32::MIN),
+        (Two, i32::MIN, -1, i32::MIN),
+        (One, i32::MIN, 1, i32::MIN),
+        (Two, i32::MIN, 1, i32::MIN),
+    ] {
+        assert_value(version, Operator::Quotient, [left, right], expected);
+    }
     for (operator, left, right, expected) in [
-        (Operator::Quotient, -7, 2, -3),
-        (Operator::Quotient, 7, -2, -3),
-        (Operator::Quotient, 7, 0, 0),
-        (Operator::Quotient, i32::MIN, 0, 0),
-        (Operator::Quotient, i32::MIN, -1, i32::MIN),
-        (Operator::Quotient, i32::MIN, 1, i32::MIN),
         (Operator::Sum, 2147483647, 1, -2147483648),
         (Operator::Difference, -2147483648, 1, 2147483647),
         (Operator::Product, 65536, 65536, 0),
@@ -139,14 +157,20 @@ fn values() {
         (Operator::Equal, 3, 3, 1),
         (Operator::Equal, 3, -3, 0),
     ] {
-        // Of constants and of variables, which an implementation may well treat apart.
-        for [one, other] in operands(left, right) {
-            let statement = assign(2, binary(operator, one, other));
-            let program = Program { labels: vec![OPEN; 3], statement };
-            let found = run_on(&E, program, &[left, right, 9], 1);
-            let shown = format!("{operator:?} {left} {right}");
-            assert_eq!(found, answer(0, 1, &E, &[left, right, expected]), "{shown}");
+        for version in VERSIONS {
+            assert_value(version, operator, [left, right], expected);
         }
+    }
+}
+
+fn assert_value(version: Version, operator: Operator, [left, right]: [i32; 2], expected: i32) {
+    // Of constants and of variables, which an implementation may well treat apart.
+    for [one, other] in operands(left, right) {
+        let statement = assign(2, binary(operator, one, other));
+        let program = Program { version, labels: vec![OPEN; 3], statement };
+        let found = run_on(&E, program, &[left, right, 9], 1);
+        let shown = format!("{version:?} {operator:?} {left} {right}");
+        assert_eq!(found, answer(0, 1, &E, &[left, right, expected]), "{shown}");
     }
 }
 
@@ -175,7 +199,11 @@ fn two_operators() {
                         0 => binary(outer, value.clone(), beside),
                         _ => binary(outer, beside, value.clone()),
                     };
-                    let program = Program { labels: vec![OPEN; 4], statement: assign(3, whole) };
+                    let program = Program {
+                        version: Version::One,
+                        labels: vec![OPEN; 4],
+                        statement: assign(3, whole),
+                    };
                     let found = run_on(&E, program, &[a, b, c, 9], 1);
                     let shown = format!("{inner:?} {outer:?} {a} {b} {c} {third}");
                     assert_eq!(found, answer(0, 1, &E, &[a, b, c, expected]), "{shown}");
@@ -200,7 +228,11 @@ fn operands(left: i32, right: i32) -> [[Expression; 2]; 4] {
 fn units_of_loops() {
     let less = binary(Operator::Difference, variable(0), constant(1));
     let body = block([assign(0, less), if_else(variable(0), skip(), block([]))]);
-    let program = Program { labels: vec![OPEN], statement: while_true(variable(0), body) };
+    let program = Program {
+        version: Version::One,
+        labels: vec![OPEN],
+        statement: while_true(variable(0), body),
+    };
     let run_with = |fuel| run_on(&E, program.clone(), &[3], fuel);
     // Four tests, three assignments, three ifs, two skips.
     assert_eq!(run_with(12), answer(0, 12, &E, &[0]));
@@ -210,7 +242,7 @@ fn units_of_loops() {
 /// Without a variable memory is empty; a block of nothing spends nothing.
 #[test]
 fn no_variables() {
-    let program = |statement| Program { labels: vec![], statement };
+    let program = |statement| Program { version: Version::One, labels: vec![], statement };
     assert_eq!(run_on(&E, program(skip()), &[], 1), answer(0, 1, &E, &[]));
     assert_eq!(run_on(&E, program(block([])), &[], 1), answer(0, 0, &E, &[]));
     assert_eq!(run_on(&E, program(skip()), &[0], 1), answer(20, 0, &E, &[0]));
@@ -219,11 +251,11 @@ fn no_variables() {
 /// 20 comes before 21, and both after the program's number.
 #[test]
 fn refused_before_a_run() {
-    let program = Program { labels: vec![OPEN], statement: skip() };
+    let program = Program { version: Version::One, labels: vec![OPEN], statement: skip() };
     for fuel in [0, 1_000_001, u32::MAX] {
         assert_eq!(run_on(&E, program.clone(), &[7], fuel), answer(21, 0, &E, &[7]));
         assert_eq!(run_on(&E, program.clone(), &[7, 8], fuel), answer(20, 0, &E, &[7, 8]));
     }
-    let outside = Program { labels: vec![OPEN], statement: touch(0) };
+    let outside = Program { version: Version::One, labels: vec![OPEN], statement: touch(0) };
     assert_eq!(run_on(&E, outside, &[7, 8], 0), answer(15, 0, &E, &[7, 8]));
 }

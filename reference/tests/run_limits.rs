@@ -12,7 +12,7 @@ use common::compared::{compare, Input};
 use reference::encode::encode;
 use reference::generate::encode as encode_policy;
 use reference::policy::{Policy, Row};
-use reference::program::{Atom, Expression, Kind, Operator, Program, Query, Statement};
+use reference::program::{Atom, Expression, Kind, Operator, Program, Query, Statement, Version};
 use reference::rng::Rng;
 use reference::run::call::{bytes, Answer};
 use reference::shapes::*;
@@ -48,7 +48,7 @@ fn filled(length: usize, parts: Vec<Statement>) -> Vec<u8> {
     let with = |filling| {
         let unused = if_else(constant(0), filling, skip());
         let statement = block(parts.iter().cloned().chain([unused]));
-        encode(&mut Program { labels: vec![OPEN; 64], statement }).bytes
+        encode(&mut Program { version: Version::One, labels: vec![OPEN; 64], statement }).bytes
     };
     let bytes = with(filling(length + 1 - with(skip()).len()));
     assert_eq!(bytes.len(), length);
@@ -220,7 +220,7 @@ fn depths() {
 fn variables() {
     let program = |count| {
         let statement = assign(0, constant(5));
-        encode(&mut Program { labels: vec![OPEN; count], statement }).bytes
+        encode(&mut Program { version: Version::One, labels: vec![OPEN; count], statement }).bytes
     };
     let finished = run(&program(64), MOST_FUEL);
     assert_eq!((finished.number, finished.units), (0, 1));

@@ -42,6 +42,31 @@ fn assignment() -> Vec<u8> {
     bytes
 }
 
+/// v0 := a quotient of v0 that is 16 deep, on the left or on the right.
+fn quotients(on_the_left: bool) -> Vec<u8> {
+    let mut bytes = vec![0x01, 0];
+    match on_the_left {
+        true => {
+            bytes.extend([0x05; 15]);
+            bytes.extend([0x01, 0].repeat(16));
+        }
+        false => {
+            bytes.extend([0x05, 0x01, 0].repeat(15));
+            bytes.extend([0x01, 0]);
+        }
+    }
+    bytes
+}
+
+/// The program as it is and in version 2.
+fn in_both_versions(program: &[u8]) -> [Vec<u8>; 2] {
+    [1, 2].map(|version| {
+        let mut program = program.to_vec();
+        program[3] = version;
+        program
+    })
+}
+
 /// An update that puts principal 0 into role 1: role 0 means nobody, so a query listed first fails.
 fn update() -> Vec<u8> {
     vec![0x06, 1, 0x00, 1, 0]
@@ -89,12 +114,15 @@ fn programs() {
         ("whiles", nested(&[0x04, 0x01, 0], &[]), (0, 0)),
     ];
     for (what, program, body) in cases {
-        let number = within(PROGRAM_STACK, &program, proved_program::program);
-        assert_eq!(number, 0, "{what}");
-        let verdict = within(PROGRAM_STACK, &program, proved_program::verdict);
-        assert_eq!(verdict, (0, 0), "{what}");
-        let first = |policy: &[u8], program: &[u8]| proved_program::transaction(policy, program, 0);
-        assert_eq!(within(PROGRAM_STACK, &program, first), (0, body), "{what}");
+        for program in in_both_versions(&program) {
+            let number = within(PROGRAM_STACK, &program, proved_program::program);
+            assert_eq!(number, 0, "{what}");
+            let verdict = within(PROGRAM_STACK, &program, proved_program::verdict);
+            assert_eq!(verdict, (0, 0), "{what}");
+            let first =
+                |policy: &[u8], program: &[u8]| proved_program::transaction(policy, program, 0);
+            assert_eq!(within(PROGRAM_STACK, &program, first), (0, body), "{what}");
+        }
     }
 }
 
@@ -110,13 +138,17 @@ fn runs() {
         ("blocks", nested(&[0x02, 1], &[]), 1),
         ("ifs", nested(&[0x03, 0x01, 0], &[0x00]), 31 + 1),
         ("whiles", nested(&[0x04, 0x01, 0], &[]), 31 + 8 + 8 + 30),
+        ("quotients on the left", nested_queries(true, &quotients(true)), 1 + 30 + 1),
+        ("quotients on the right", nested_queries(true, &quotients(false)), 1 + 30 + 1),
     ];
     let run = |policy: &[u8], program: &[u8]| {
         let (mut policy, mut memory) = (policy.to_vec(), [1, 0, 0, 0, 0, 0, 0, 0]);
         proved_program::run(&mut policy, program, &mut memory, MOST_FUEL)
     };
     for (what, program, units) in cases {
-        assert_eq!(within(RUN_STACK, &program, run), (0, units), "{what}");
+        for program in in_both_versions(&program) {
+            assert_eq!(within(RUN_STACK, &program, run), (0, units), "{what}");
+        }
     }
 }
 

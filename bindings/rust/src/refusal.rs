@@ -106,7 +106,7 @@ impl Refusal {
             Refusal::ProgramLength => {
                 "the program is over 4,096 bytes, ends early, or has bytes left over"
             }
-            Refusal::ProgramMark => "the program does not begin with its mark and version 1",
+            Refusal::ProgramMark => "the program does not begin with its mark and version 1 or 2",
             Refusal::ProgramCode => "no statement, expression, mutation or atom has this code",
             Refusal::ProgramRange => {
                 "a count is out of range, a variable, role or principal does not exist, or a label is \

@@ -6,6 +6,7 @@ use mathlib.Core.Bool.{true}
 use Rattle.model.specs.Policy.{Side}
 use Rattle.model.specs.Mutation.{Mutation}
 use Rattle.model.specs.Syntax.{Atom, Query, Stmt}
+use Rattle.model.specs.Program.{version}
 use Rattle.model.specs.Flow.{Around, outside, inside}
 use Rattle.model.specs.Atoms.{holds}
 use Rattle.model.specs.Run.{Update, mutateAll}
@@ -30,6 +31,10 @@ Stands S around known context x = Placed (S .base) (S .program) around known con
 -- what that gives for its parts
 pub rule : (S : Setting) {around : Around} {known : List Query} {context : Side → List Atom} {x : Stmt} → Stands S around known context x → Parts (S .base) (S .program) around known context x
 rule S = parts (S .base) (S .program) (S .base-accepted)
+
+-- a run of a statement in the program's own version
+abbrev pub RunsIn : Setting → List Query → Stmt → List ℕ → List ℕ → End → List Update → Type 0
+RunsIn S = Runs (version (S .program))
 
 -- what is known: nothing outside a transaction, and inside it listed queries that hold
 abbrev pub Known : Around → List Query → List ℕ → Type 0
@@ -69,7 +74,7 @@ alike-shown {S} a k near = record { near = near; room1 = a .room1; room2 = a .ro
 module _ (S : Setting) where
   -- a listed query that holds goes on to hold, since an update that fails it rolls back
   listed-stays : {listed known : List Query} {xs rs : ℕ} {context : Side → List Atom} {x : Stmt} {s m s₁ m₁ : List ℕ} {us : List Update}
-      → Stands S (inside listed xs rs) known context x → Runs listed x s m (ends s₁ m₁) us → (q : Query) → List·Memᴰ q listed → holds s q ≡ true → holds s₁ q ≡ true
+      → Stands S (inside listed xs rs) known context x → RunsIn S listed x s m (ends s₁ m₁) us → (q : Query) → List·Memᴰ q listed → holds s q ≡ true → holds s₁ q ≡ true
   listed-stays h run-skip q i w = w
   listed-stays h run-assign q i w = w
   listed-stays h run-empty q i w = w
@@ -86,7 +91,7 @@ module _ (S : Setting) where
 
   -- so what is known stays true
   pub known-stays : {around : Around} {known : List Query} {context : Side → List Atom} {x : Stmt} {s m s₁ m₁ : List ℕ} {us : List Update}
-      → Stands S around known context x → Runs (listedOf around) x s m (ends s₁ m₁) us → Known around known s → Known around known s₁
+      → Stands S around known context x → RunsIn S (listedOf around) x s m (ends s₁ m₁) us → Known around known s → Known around known s₁
   known-stays {around = outside} h d w = w
   known-stays {around = inside _ _ _} h d w = λ q i. (w q i .0, listed-stays h d q (w q i .0) (w q i .1))
 
@@ -97,7 +102,7 @@ module _ (S : Setting) where
 
   -- F4 along a run
   pub hidden-along : {around : Around} {known l : List Query} {context : Side → List Atom} {x : Stmt} {s m : List ℕ} {o : End} {us : List Update}
-      → Stands S around known context x → Runs l x s m o us → Good S s → NoGain (S .group) us → ShowsNoMore S s (policyOf o)
+      → Stands S around known context x → RunsIn S l x s m o us → Good S s → NoGain (S .group) us → ShowsNoMore S s (policyOf o)
   hidden-along h run-skip g n = shows-refl g
   hidden-along h run-assign g n = shows-refl g
   hidden-along h run-empty g n = shows-refl g
@@ -129,7 +134,7 @@ module _ (S : Setting) where
 
   -- F3 along a run inside a transaction
   pub rows-stay : {l k known : List Query} {xs rs : ℕ} {context : Side → List Atom} {x : Stmt} {s m : List ℕ} {o : End} {us : List Update}
-      → Stands S (inside l xs rs) known context x → Runs k x s m o us → Good S s → RowsHidden S rs → Near S s (policyOf o)
+      → Stands S (inside l xs rs) known context x → RunsIn S k x s m o us → Good S s → RowsHidden S rs → Near S s (policyOf o)
   rows-stay h run-skip g v = near-refl g
   rows-stay h run-assign g v = near-refl g
   rows-stay h run-empty g v = near-refl g

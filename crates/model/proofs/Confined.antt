@@ -8,14 +8,15 @@ use Rattle.model.specs.Limits.{variableLimit}
 use Rattle.model.specs.Sets.{has}
 use Rattle.model.specs.Policy.{Side}
 use Rattle.model.specs.Syntax.{of, Atom, Query, Expr, Stmt, assign, while, transaction}
+use Rattle.model.specs.Program.{version}
 use Rattle.model.specs.Flow.{underExpr, underQuery, updateJoin, assigned, mutated, Around, outside, inside}
 use Rattle.model.specs.Value.{evaluate}
 use Rattle.model.specs.Run.{Update}
-use Rattle.model.proofs.Along.{listedOf, Stands, rule, Known, nothing-known, all-hold, known-stays}
+use Rattle.model.proofs.Along.{listedOf, Stands, rule, RunsIn, Known, nothing-known, all-hold, known-stays}
 use Rattle.model.specs.Fits.{Each}
 use Rattle.model.proofs.FlowParts.{ListedHold, UpdatesOn}
 use Rattle.model.proofs.Openness.{Setting, isOpen, Good, Near, near-sym, near-trans, open-fixed, open-same, Hidden, hidden-near, hidden-in, hides}
-use Rattle.model.proofs.Runs.{End, ends, rolls, Runs, run-skip, run-assign, run-empty, run-block, run-block-rolls, run-then, run-else, run-stop, run-more, run-more-rolls, run-holds, run-fails, run-update, run-update-rolls, run-transaction, run-again}
+use Rattle.model.proofs.Runs.{End, ends, rolls, run-skip, run-assign, run-empty, run-block, run-block-rolls, run-then, run-else, run-stop, run-more, run-more-rolls, run-holds, run-fails, run-update, run-update-rolls, run-transaction, run-again}
 use Rattle.model.proofs.States.{labelOf, Room, Alike, alike-refl, alike-trans, assign-hidden}
 use Rattle.model.proofs.Updates.{RowsHidden, hidden-update}
 
@@ -93,9 +94,9 @@ module _ (S : Setting) where
   assign-unseen {around = inside _ _ _} {x} h g w (by-transaction y) = y .variables-hidden x (omega (arith, h .fits .0, S .few)) (rule S h .0)
 
   pub confined : {around : Around} {known : List Query} {context : Side → List Atom} {x : Stmt} {s m : List ℕ} {o : End} {us : List Update}
-      → Stands S around known context x → Runs (listedOf around) x s m o us → Good S s → Room S m → Known around known s → Unseen S around s (context (S .side)) → Calm S around s m o
+      → Stands S around known context x → RunsIn S (listedOf around) x s m o us → Good S s → Room S m → Known around known s → Unseen S around s (context (S .side)) → Calm S around s m o
   confined h run-skip g r w y = alike-refl g r
-  confined h (run-assign {m = m} {x = x} {e = e}) g r w y = assign-hidden x (evaluate m e) g r (assign-unseen h g w y)
+  confined h (run-assign {m = m} {x = x} {e = e}) g r w y = assign-hidden x (evaluate (version (S .program)) m e) g r (assign-unseen h g w y)
   confined h run-empty g r w y = alike-refl g r
   confined {around} h (run-block {o = o} d e) g r w y =
       let a = confined (rule S h .0) d g r w y in
@@ -129,7 +130,7 @@ module _ (S : Setting) where
 
   -- a loop whose body is out of sight
   pub confined-loop : {around : Around} {known : List Query} {context : Side → List Atom} {e : Expr} {x : Stmt} {s m : List ℕ} {o : End} {us : List Update}
-      → Stands S around known context x → Runs (listedOf around) (while e x) s m o us → Good S s → Room S m → Known around known s
+      → Stands S around known context x → RunsIn S (listedOf around) (while e x) s m o us → Good S s → Room S m → Known around known s
       → Unseen S around s (context (S .side)) → Calm S around s m o
   confined-loop h (run-stop t) g r w y = alike-refl g r
   confined-loop {around} h (run-more {o = o} t d f) g r w y =
@@ -139,7 +140,7 @@ module _ (S : Setting) where
 
   -- a whole transaction that is hidden, with its restarts
   pub confined-transaction : {l qs known : List Query} {at start end : ℕ} {context : Side → List Atom} {x : Stmt} {s m s₁ m₁ : List ℕ} {us : List Update}
-      → Stands S (inside qs (assigned x) (mutated x)) known context x → known ≡ [] → Runs l (transaction at start end qs x) s m (ends s₁ m₁) us → Good S s → Room S m
+      → Stands S (inside qs (assigned x) (mutated x)) known context x → known ≡ [] → RunsIn S l (transaction at start end qs x) s m (ends s₁ m₁) us → Good S s → Room S m
       → AllHidden S (assigned x) (mutated x) s → Alike S s m s₁ m₁
   confined-transaction {qs} {s} h w (run-transaction d) g r v = confined h d g r (nothing-known qs s w) (by-transaction v)
   confined-transaction {qs} {x} {s} h w (run-again d e) g r v =

@@ -8,7 +8,7 @@ use mathlib.Core.Bool.{true}
 use Rattle.model.specs.Number.{accepted}
 use Rattle.model.specs.Policy.{Side, reading, trust, principals, roles, viewers, trusters, watchers, SameFixed}
 use Rattle.model.specs.Syntax.{of}
-use Rattle.model.specs.Program.{got, variables, readProgram}
+use Rattle.model.specs.Program.{got, version, variables, readProgram}
 use Rattle.model.specs.Order.{fixedSet}
 use Rattle.model.specs.Flow.{label}
 use Rattle.model.specs.Atoms.{atomSet}
@@ -28,11 +28,11 @@ use Rattle.model.proofs.States.{labelOf, Alike}
 -- a run that returned 0 ran the body of an accepted program to its end
 record Finished (s p m : List ℕ) (f : ℕ) (r : Outcome) : Type 0 where
   begins : Begins s p m f
-  body-ran : Runs [] (begins .program .body) s m (ends (r .policy) (r .memory)) (r .updates)
+  body-ran : Runs (version p) [] (begins .program .body) s m (ends (r .policy) (r .memory)) (r .updates)
 
 finished : {s p m : List ℕ} {f : ℕ} {r : Outcome} → Ran s p m f r → r .number ≡ accepted → Finished s p m f r
 finished (refuses k some few) h = absurd (omega arith)
-finished {s} {p} {m} {f} (finishes b e) h = record { begins = b; body-ran = rw e at (execute-runs (b .program .body) [] f s m) }
+finished {s} {p} {m} {f} (finishes b e) h = record { begins = b; body-ran = rw e at (execute-runs (version p) (b .program .body) [] f s m) }
 finished (spends b e) h = absurd (omega arith)
 
 -- near policies, and memories that agree on what is open, make ends as claimed
@@ -62,7 +62,7 @@ both-finished {side} {group} {p} {a} {b} {m} {n} {one} {two} same rows values f 
     let start : Alike S a m b n = record { near = near; room1 = x .begins .memory-fits; room2 = y .begins .memory-fits; values = values } in
     let read : readProgram p (principals b) (roles b) ≡ got (x .begins .program .body) (x .begins .program .end) = rw (same .same-principals, same .same-roles) at (x .begins .program .is-read) in
     let body : y .begins .program .body ≡ x .begins .program .body = cc in
-    let run-two : Runs [] (x .begins .program .body) b n (ends (two .policy) (two .memory)) (two .updates) = rw body at (y .body-ran) in
+    let run-two : Runs (version p) [] (x .begins .program .body) b n (ends (two .policy) (two .memory)) (two .updates) = rw body at (y .body-ran) in
     ⊎-elim absurd (λ k. claimed (k .near) (k .values)) (in-step S (x .begins .program .placed) (x .body-ran) run-two refl refl start f)
 
 pub demand-3 : Demand3

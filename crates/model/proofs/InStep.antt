@@ -7,18 +7,18 @@ use mathlib.Core.Bool.{Bool, true, false}
 use Rattle.model.specs.Policy.{Side}
 use Rattle.model.specs.Mutation.{Mutation}
 use Rattle.model.specs.Syntax.{Atom, Query, Expr, Stmt, assign, while, transaction}
-use Rattle.model.specs.Program.{variables}
+use Rattle.model.specs.Program.{version, variables}
 use Rattle.model.specs.Flow.{exprLabel, queryLabel, listLabel, underExpr, underQuery, assigned, mutated, Around, outside, inside}
 use Rattle.model.specs.Atoms.{holds}
 use Rattle.model.specs.Value.{evaluate, truth, setValue}
 use Rattle.model.specs.Run.{Update, mutateAll, broken}
 use Rattle.model.specs.Claim.{NoGain}
-use Rattle.model.proofs.Along.{listedOf, Stands, rule, Known, nothing-known, all-hold, no-gain-first, no-gain-later, alike-shown, known-stays, update-shows, hidden-along, rows-stay}
+use Rattle.model.proofs.Along.{listedOf, Stands, rule, RunsIn, Known, nothing-known, all-hold, no-gain-first, no-gain-later, alike-shown, known-stays, update-shows, hidden-along, rows-stay}
 use Rattle.model.proofs.Confined.{AllHidden, HiddenAround, hidden-around-near, by-context, Calm, update-hidden, confined, confined-loop, confined-transaction}
 use Rattle.model.specs.Fits.{Each, ExprFits}
 use Rattle.model.proofs.FlowParts.{ListedHold, Mutates, UpdatesOn}
 use Rattle.model.proofs.Openness.{Setting, Good, Near, near-sym, Hidden, hidden-or-open, hidden-near, hidden-in, hides, query-same, broken-same}
-use Rattle.model.proofs.Runs.{End, ends, rolls, Runs, run-skip, run-assign, run-empty, run-block, run-block-rolls, run-then, run-else, run-stop, run-more, run-more-rolls, run-holds, run-fails, run-update, run-update-rolls, run-transaction, run-again}
+use Rattle.model.proofs.Runs.{End, ends, rolls, run-skip, run-assign, run-empty, run-block, run-block-rolls, run-then, run-else, run-stop, run-more, run-more-rolls, run-holds, run-fails, run-update, run-update-rolls, run-transaction, run-again}
 use Rattle.model.proofs.Sees.{clash}
 use Rattle.model.proofs.States.{Alike, alike-sym, alike-trans, evaluate-same, assign-same}
 use Rattle.model.proofs.Updates.{update-near}
@@ -46,25 +46,25 @@ differ t f e = clash t (e ∙ f)
 module _ (S : Setting) where
   -- two statements, such as the branches of one, that stand in a hidden context
   unseen-two : {around : Around} {k l : List Query} {context : Side → List Atom} {x y : Stmt} {s m t n : List ℕ} {a b : End} {us vs : List Update}
-      → Stands S around k context x → Runs (listedOf around) x s m a us → Known around k s
-      → Stands S around l context y → Runs (listedOf around) y t n b vs → Known around l t
+      → Stands S around k context x → RunsIn S (listedOf around) x s m a us → Known around k s
+      → Stands S around l context y → RunsIn S (listedOf around) y t n b vs → Known around l t
       → Alike S s m t n → Hidden S s (context (S .side)) → InStep S around s a b
   unseen-two {around} {a} {b} h d w i e v k y =
       calm-two around a b k (confined S h d (k .near .good1) (k .room1) w (by-context y)) (confined S i e (k .near .good2) (k .room2) v (by-context (hidden-near (k .near) y)))
 
   -- two runs of a loop whose body stands in a hidden context
   unseen-loops : {around : Around} {known : List Query} {context : Side → List Atom} {e : Expr} {x : Stmt} {s m t n : List ℕ} {a b : End} {us vs : List Update}
-      → Stands S around known context x → Runs (listedOf around) (while e x) s m a us → Runs (listedOf around) (while e x) t n b vs
+      → Stands S around known context x → RunsIn S (listedOf around) (while e x) s m a us → RunsIn S (listedOf around) (while e x) t n b vs
       → Known around known s → Known around known t → Alike S s m t n → Hidden S s (context (S .side)) → InStep S around s a b
   unseen-loops {around} {a} {b} h d e w v k y =
       calm-two around a b k (confined-loop S h d (k .near .good1) (k .room1) w (by-context y)) (confined-loop S h e (k .near .good2) (k .room2) v (by-context (hidden-near (k .near) y)))
 
   -- where two tests of an expression differ its label is hidden
   guard-hidden : {s m t n : List ℕ} (e : Expr) (context : Side → List Atom) → ExprFits (variables (S .program)) e → Alike S s m t n
-      → (truth (evaluate m e) ≡ truth (evaluate n e) → ⊥) → Hidden S s (underExpr (S .program) e context (S .side))
+      → (truth (evaluate (version (S .program)) m e) ≡ truth (evaluate (version (S .program)) n e) → ⊥) → Hidden S s (underExpr (S .program) e context (S .side))
   guard-hidden {s} e context f k d = ⊎-elim
       (λ h. hidden-in (λ a i. search Memᴰ·append-left) h)
-      (λ o. absurd (d (ap truth (evaluate-same k e f o))))
+      (λ o. absurd (d (ap truth (evaluate-same k _ e f o))))
       (hidden-or-open S s (exprLabel (S .program) (S .side) e))
 
   -- where two answers to a query differ its label is hidden
@@ -85,22 +85,22 @@ module _ (S : Setting) where
 
   -- assignments: where the variable is open so is the expression's label
   assign-alike : {around : Around} {known : List Query} {context : Side → List Atom} {at x : ℕ} {e : Expr} {s m t n : List ℕ}
-      → Stands S around known context (assign at x e) → Known around known s → Alike S s m t n → Alike S s (setValue m x (evaluate m e)) t (setValue n x (evaluate n e))
-  assign-alike {around} {known} {x} {e} {s} {m} {t} {n} h w k = assign-same x (evaluate m e) (evaluate n e) k (λ o. ⊎-elim
+      → Stands S around known context (assign at x e) → Known around known s → Alike S s m t n → Alike S s (setValue m x (evaluate (version (S .program)) m e)) t (setValue n x (evaluate (version (S .program)) n e))
+  assign-alike {around} {known} {x} {e} {s} {m} {t} {n} h w k = assign-same x (evaluate (version (S .program)) m e) (evaluate (version (S .program)) n e) k (λ o. ⊎-elim
       (λ y. clash o (hides (k .near .good1) (all-hold around known s w) (rule S h .1 (S .side) .value-below) y))
-      (λ p. evaluate-same k e (h .fits .1) p)
+      (λ p. evaluate-same k _ e (h .fits .1) p)
       (hidden-or-open S s (exprLabel (S .program) (S .side) e)))
 
   -- a transaction that is hidden after a first part was so before it
   hidden-before : {around : Around} {known : List Query} {context : Side → List Atom} {x : Stmt} {s m s₁ m₁ : List ℕ} {us : List Update}
-      → Stands S around known context x → Runs (listedOf around) x s m (ends s₁ m₁) us → Good S s → HiddenAround S around s₁ → HiddenAround S around s
+      → Stands S around known context x → RunsIn S (listedOf around) x s m (ends s₁ m₁) us → Good S s → HiddenAround S around s₁ → HiddenAround S around s
   hidden-before {around = outside} h d g y = y
   hidden-before {around = inside l xs rs} h d g y = hidden-around-near (inside l xs rs) (near-sym (rows-stay S h d g (y .rows-hidden))) y
 
   -- two runs of a transaction that is hidden
   hidden-transactions : {qs known : List Query} {at start end : ℕ} {context : Side → List Atom} {x : Stmt} {s m s₁ m₁ t n t₁ n₁ : List ℕ} {us vs : List Update}
       → Stands S (inside qs (assigned x) (mutated x)) known context x → known ≡ []
-      → Runs [] (transaction at start end qs x) s m (ends s₁ m₁) us → Runs [] (transaction at start end qs x) t n (ends t₁ n₁) vs
+      → RunsIn S [] (transaction at start end qs x) s m (ends s₁ m₁) us → RunsIn S [] (transaction at start end qs x) t n (ends t₁ n₁) vs
       → Alike S s m t n → AllHidden S (assigned x) (mutated x) s → Alike S s₁ m₁ t₁ n₁
   hidden-transactions {qs} {x} h w d e k y =
       let a = confined-transaction S h w d (k .near .good1) (k .room1) y in
@@ -109,7 +109,7 @@ module _ (S : Setting) where
 
   -- that the first run does not gain is enough: in step the second changes open rows as the first does
   pub in-step : {around : Around} {known : List Query} {context : Side → List Atom} {x : Stmt} {s m t n : List ℕ} {a b : End} {us vs : List Update}
-      → Stands S around known context x → Runs (listedOf around) x s m a us → Runs (listedOf around) x t n b vs
+      → Stands S around known context x → RunsIn S (listedOf around) x s m a us → RunsIn S (listedOf around) x t n b vs
       → Known around known s → Known around known t → Alike S s m t n → NoGain (S .group) us → InStep S around s a b
   in-step h run-skip run-skip w v k g = inr k
   in-step h run-assign run-assign w v k g = inr (assign-alike h w k)

@@ -18,6 +18,7 @@ pub mod Mutation
 pub mod Order
 pub mod Semantics
 pub mod Verdict
+pub mod Versions
 pub mod Fits
 pub mod Bodies
 pub mod Reading

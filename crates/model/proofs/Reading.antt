@@ -4,8 +4,8 @@
 -- know no other number.
 use Prim.Native.Nat.{ℕ, zero, suc, _+_, _-_, _*_, _<_, _≤_}
 use native.Mathlib.Omega.{arith}
-use mathlib.Core.Path.{_≡_, refl, ap, _∙_}
-use mathlib.Core.Logic.{⊎-elim}
+use mathlib.Core.Path.{_≡_, refl, sym, ap, _∙_}
+use mathlib.Core.Logic.{_⊎_, inl, inr, ⊎-elim}
 use mathlib.Core.List.{List, [], _∷_, List·Memᴰ·head, List·Memᴰ·tail, List·Memᴰ·not-nil}
 use mathlib.Core.Bool.{Bool, true, false, cond, _||_}
 use lib.Dec.{eqb, ltb, leb}
@@ -13,16 +13,16 @@ use lib.ListN.{length}
 use borrow.Author.Tests.{ltb-true, leb-true, eqb-true}
 use Rattle.model.specs.Limits.{programBytes, variableLimit, statementDepth, expressionDepth, listLimit}
 use Rattle.model.specs.Number.{programLength, programRange, programDepth}
-use Rattle.model.specs.Bytes.{byte}
+use Rattle.model.specs.Bytes.{byte, word}
 use Rattle.model.specs.Policy.{reading, trust}
 use Rattle.model.specs.Mutation.{Kind, addMember, deleteMember, addTaken, deleteTaken, Mutation}
 use Rattle.model.specs.Syntax.{of, Atom, role, fixed, Query, Operator, sum, difference, product, quotient, less, equal, Expr, Stmt}
-use Rattle.model.specs.Program.{Read, got, bad, andThen, readByte, readBelow, readMark, readMany, programHead, atomAt, readAtom, readLabel, readQuery, mutationAt, readMutation, binaryAt, exprAt, readExpr, blockOf, assignAt, blockAt, ifAt, whileAt, queryAt, updateAt, transactionAt, stmtAt, readStmt, variables, readBody, readProgram}
+use Rattle.model.specs.Program.{Read, got, bad, andThen, readByte, readBelow, readMark, readMany, version, programHead, atomAt, readAtom, readLabel, readQuery, mutationAt, readMutation, binaryAt, exprAt, readExpr, blockOf, assignAt, blockAt, ifAt, whileAt, queryAt, updateAt, transactionAt, stmtAt, readStmt, variables, readBody, readProgram}
 use Rattle.model.specs.Flow.{part, bodies}
 use Rattle.model.proofs.Bodies.{BodiesWithin, bodies-later, two-within, none-within, block-within}
 use Rattle.model.specs.Fits.{Each, AtomFits, QueryFits, operandLimit, MutationFits, ExprFits, Fits}
 use Rattle.model.proofs.Fits.{each-cons}
-use Rattle.model.proofs.Truth.{either}
+use Rattle.model.proofs.Truth.{true-or-false, either}
 
 -- the numbers that reading refuses with
 abbrev pub ReadNumber : ℕ → Type 0
@@ -43,6 +43,11 @@ module _ {A : Type 0} {Q : A → ℕ → Type 0} where
   pick-gives true f g = f refl
   pick-gives false f g = g
 
+-- what follows from what is so of what is given
+weaker : {A : Type 0} {Q H : A → ℕ → Type 0} {r : Read A} → Gives Q r → ((x : A) (n : ℕ) → Q x n → H x n) → Gives H r
+weaker (gives {x = x} {next = n} h) f = gives (f x n h)
+weaker (fails n) f = fails n
+
 gives-got : {A : Type 0} {Q : A → ℕ → Type 0} {x : A} {n : ℕ} → Gives Q (got x n) → Q x n
 gives-got (gives h) = h
 
@@ -59,10 +64,19 @@ module _ (p : List ℕ) where
   unfolding readBelow
   below-gives bound at = then-gives (byte-gives at) (λ x n h. pick-gives (ltb x bound) (λ l. gives (h .0, h .1, h .2, ltb-true x bound l)) (fails (omega arith)))
 
-  mark-gives : (m : List ℕ) (at end : ℕ) → at + length m ≡ end → Gives (λ x n. n ≡ end) (readMark p m at)
+  -- the bytes of a mark, one after the other from a position on
+  abbrev Marked : List ℕ → ℕ → Type 0
+  Marked [] at = Unit {0}
+  Marked (x ∷ m) at = (byte p at ≡ x) × Marked m (at + 1)
+
+  mark-gives : (m : List ℕ) (at end : ℕ) → at + length m ≡ end → Gives (λ x n. (n ≡ end) × Marked m at) (readMark p m at)
   unfolding readMark
-  mark-gives [] at end e = let q : at ≡ end = omega arith in gives q
-  mark-gives (x ∷ m) at end e = then-gives (byte-gives at) (λ y n h. pick-gives (eqb y x) (λ _. mark-gives m n end (omega arith)) (fails (omega arith)))
+  mark-gives [] at end e = let q : at ≡ end = omega arith in gives (q, tt)
+  mark-gives (x ∷ m) at end e =
+      then-gives (byte-gives at)
+      (λ y n h. pick-gives (eqb y x)
+      (λ l. weaker (mark-gives m n end (omega arith)) (λ _ _ g. (g .0, (sym (h .1) ∙ eqb-true y x l, rw (h .2) at (g .1)))))
+      (fails (omega arith)))
 
 -- something that is so where it ends, read forward from a position inside the bytes
 module _ (p : List ℕ) {A : Type 0} (Q : ℕ → A → Type 0) where
@@ -71,8 +85,7 @@ module _ (p : List ℕ) {A : Type 0} (Q : ℕ → A → Type 0) where
 
   -- from a later position it is from an earlier one too
   earlier : {at next : ℕ} {r : Read A} → at ≤ next → GivesFrom next r → GivesFrom at r
-  earlier l (gives {next = end} h) = gives {next = end} (omega arith, h .1, h .2)
-  earlier l (fails n) = fails n
+  earlier l r = weaker r (λ x end h. (omega arith, h .1, h .2))
 
 -- n things one after the other, where a later end keeps what is so of each
 many-gives : (p : List ℕ) {A : Type 0} (Q : ℕ → A → Type 0) → ((m n : ℕ) → m ≤ n → (x : A) → Q m x → Q n x)
@@ -234,8 +247,15 @@ module _ (p : List ℕ) (R : ℕ) where
       each mid m f g zero l = let k : at + 0 ≡ at = omega arith in rw k f
       each mid m f g (suc i) l = let k : at + suc i ≡ mid + i = omega arith in rw k (g i (omega arith))
 
--- a program that was read: the labels fit, the statement stands after them and fits, and it ends where the program does
+-- there are two versions
+pub one-or-two : (p : List ℕ) → (version p ≡ 1) ⊎ (version p ≡ 2)
+unfolding version
+one-or-two p = ⊎-elim (λ t. inr (rw t)) (λ f. inl (rw f)) (true-or-false (eqb (byte p 3) 2))
+
+-- a program that was read: the two bytes after its mark are its version, the labels fit, the statement stands after them and
+-- fits, and it ends where the program does
 pub record ProgramParts (p : List ℕ) (P R : ℕ) (x : Stmt) (end : ℕ) : Type 0 where
+  pub stated : word p 3 2 ≡ version p
   pub few : variables p ≤ variableLimit
   pub inside : 6 + 2 * variables p ≤ length p
   pub labels : LabelsFit p R
@@ -245,13 +265,19 @@ pub record ProgramParts (p : List ℕ) (P R : ℕ) (x : Stmt) (end : ℕ) : Type
   pub bodies-within : BodiesWithin end x
 
 module _ (p : List ℕ) (P R : ℕ) where
-  body-gives : variables p ≤ variableLimit → 6 + 2 * variables p ≤ length p → LabelsFit p R → (vars at : ℕ) → vars ≡ variables p → at ≡ 6 + 2 * variables p → Gives (ProgramParts p P R) (readBody p P R vars at)
+  -- the two bytes after the mark, as 16 bits
+  version-marked : (v : ℕ) → Marked p (programHead v) 0 → word p 3 2 ≡ v
+  unfolding word
+  version-marked v h = omega arith
+
+  body-gives : word p 3 2 ≡ version p → variables p ≤ variableLimit → 6 + 2 * variables p ≤ length p → LabelsFit p R → (vars at : ℕ) → vars ≡ variables p → at ≡ 6 + 2 * variables p → Gives (ProgramParts p P R) (readBody p P R vars at)
   unfolding readBody andThen
-  body-gives few inside labels vars at v e = rw (v, e) (go (readStmt p P R (variables p) statementDepth (6 + 2 * variables p)) refl (stmt-gives p P R (variables p) statementDepth (6 + 2 * variables p)))
+  body-gives stated few inside labels vars at v e = rw (v, e) (go (readStmt p P R (variables p) statementDepth (6 + 2 * variables p)) refl (stmt-gives p P R (variables p) statementDepth (6 + 2 * variables p)))
     where
       go : (r : Read Stmt) → readStmt p P R (variables p) statementDepth (6 + 2 * variables p) ≡ r → GivesStmt p P R (variables p) (6 + 2 * variables p) r
           → Gives (ProgramParts p P R) (andThen r (λ body end. cond (eqb end (length p)) (got body end) (bad programLength end)))
       go (got x end) h (gives g) = pick-gives (eqb end (length p)) (λ l. gives (record {
+        stated = stated;
         few = few;
         inside = inside;
         labels = labels;
@@ -266,13 +292,13 @@ module _ (p : List ℕ) (P R : ℕ) where
   unfolding readProgram
   program-gives =
       pick-gives (leb (length p) programBytes)
-      (λ _. then-gives (mark-gives p programHead 0 5 refl)
-      (λ _ n e. then-gives (below-gives p (suc variableLimit) n)
+      (λ _. then-gives (mark-gives p (programHead (version p)) 0 5 refl)
+      (λ _ n m. then-gives (below-gives p (suc variableLimit) n)
       (λ vars q h.
-      let v : vars ≡ variables p = h .1 ∙ ap (byte p) e in
+      let v : vars ≡ variables p = h .1 ∙ ap (byte p) (m .0) in
       let o : q ≡ 6 = omega arith in
       then-gives (labels-gives p R (2 * vars) q (omega arith))
-      (λ _ at g. body-gives (omega arith) (omega arith) (rw (v, o) at (g .2)) vars at v (omega arith)))))
+      (λ _ at g. body-gives (version-marked (version p) (m .1)) (omega arith) (omega arith) (rw (v, o) at (g .2)) vars at v (omega arith)))))
       (fails (omega arith))
 
   pub program-parts : {x : Stmt} {end : ℕ} → readProgram p P R ≡ got x end → ProgramParts p P R x end
@@ -280,3 +306,7 @@ module _ (p : List ℕ) (P R : ℕ) where
 
   pub program-number : {k place : ℕ} → readProgram p P R ≡ bad k place → ReadNumber k
   program-number e = fails-bad (rw e at program-gives)
+
+  -- the 16 bits of what is read as a program are its version, so they say 1 or 2
+  pub version-stated : {x : Stmt} {end : ℕ} → readProgram p P R ≡ got x end → word p 3 2 ≡ version p
+  version-stated e = program-parts e .stated

@@ -7,6 +7,7 @@ use mathlib.Core.Bool.{Bool, true, false}
 use Rattle.model.specs.Limits.{fuelLimit}
 use Rattle.model.specs.Number.{accepted, fuelSpent}
 use Rattle.model.specs.Syntax.{Query, Expr, Stmt, skip, assign, empty, block, if, while, query, update, transaction}
+use Rattle.model.specs.Program.{version}
 use Rattle.model.specs.Atoms.{holds}
 use Rattle.model.specs.Value.{evaluate, truth}
 use Rattle.model.specs.Run.{Update, Result, done, rolled, spent, after, charge, andThen, mutateAll, broken, loop, attempt, execute, finish, run}
@@ -50,14 +51,14 @@ module _ {d : ℕ} where
   charge-longer (suc f) (suc g) e h = h f g (omega arith)
 
   -- the bounds are fuels, so the second is no less
-  loop-longer : (e : Expr) {a b : Body} → BodyLonger d a b → (n k : ℕ) → n ≤ k → BodyLonger d (loop e a n) (loop e b k)
+  loop-longer : (v : ℕ) (e : Expr) {a b : Body} → BodyLonger d a b → (n k : ℕ) → n ≤ k → BodyLonger d (loop v e a n) (loop v e b k)
   unfolding loop
-  loop-longer e h zero k l f g q s m = was-spent
-  loop-longer e h (suc n) zero l f g q s m = absurd (omega arith)
-  loop-longer e h (suc n) (suc k) l zero g q s m = was-spent
-  loop-longer e h (suc n) (suc k) l (suc f) zero q s m = absurd (omega arith)
-  loop-longer e h (suc n) (suc k) l (suc f) (suc g) q s m =
-      pick-longer (then-longer (h f g (omega arith) s m) (λ s₁ m₁ f₁ g₁ r. loop-longer e h n k (omega arith) f₁ g₁ r s₁ m₁)) (done-longer (omega arith)) (truth (evaluate m e))
+  loop-longer v e h zero k l f g q s m = was-spent
+  loop-longer v e h (suc n) zero l f g q s m = absurd (omega arith)
+  loop-longer v e h (suc n) (suc k) l zero g q s m = was-spent
+  loop-longer v e h (suc n) (suc k) l (suc f) zero q s m = absurd (omega arith)
+  loop-longer v e h (suc n) (suc k) l (suc f) (suc g) q s m =
+      pick-longer (then-longer (h f g (omega arith) s m) (λ s₁ m₁ f₁ g₁ r. loop-longer v e h n k (omega arith) f₁ g₁ r s₁ m₁)) (done-longer (omega arith)) (truth (evaluate v m e))
 
   attempt-longer : {a b : Body} → BodyLonger d a b → (n k : ℕ) → n ≤ k → BodyLonger d (attempt a n) (attempt b k)
   unfolding attempt
@@ -75,17 +76,17 @@ module _ {d : ℕ} where
       again i (rolled-longer {s = s₁} {us = us} {f = f₁} {g = g₁} e) = after-longer us (i f₁ g₁ e s₁ m)
       again i was-spent = was-spent
 
-  longer : (x : Stmt) (listed : List Query) → BodyLonger d (execute x listed) (execute x listed)
+  longer : (v : ℕ) (x : Stmt) (listed : List Query) → BodyLonger d (execute v x listed) (execute v x listed)
   unfolding execute
-  longer skip listed f g e s m = charge-longer f g e (λ i j r. done-longer r)
-  longer (assign at x v) listed f g e s m = charge-longer f g e (λ i j r. done-longer r)
-  longer empty listed f g e s m = done-longer e
-  longer (block a b) listed f g e s m = then-longer (longer a listed f g e s m) (λ s₁ m₁ i j r. longer b listed i j r s₁ m₁)
-  longer (if v a b) listed f g e s m = charge-longer f g e (λ i j r. pick-longer (longer a listed i j r s m) (longer b listed i j r s m) (truth (evaluate m v)))
-  longer (while v a) listed f g e s m = loop-longer v (longer a listed) _ _ (omega arith) f g e s m
-  longer (query at q a b) listed f g e s m = charge-longer f g e (λ i j r. pick-longer (longer a listed i j r s m) (longer b listed i j r s m) (holds s q))
-  longer (update at ms) listed f g e s m = charge-longer f g e (λ i j r. pick-longer (rolled-longer r) (done-longer r) (broken listed s (mutateAll s ms)))
-  longer (transaction at start end qs a) listed f g e s m = attempt-longer (λ f₁ g₁ e₁ s₁ m₁. longer a qs f₁ g₁ e₁ s₁ m₁) _ _ (omega arith) f g e s m
+  longer v skip listed f g e s m = charge-longer f g e (λ i j r. done-longer r)
+  longer v (assign at x t) listed f g e s m = charge-longer f g e (λ i j r. done-longer r)
+  longer v empty listed f g e s m = done-longer e
+  longer v (block a b) listed f g e s m = then-longer (longer v a listed f g e s m) (λ s₁ m₁ i j r. longer v b listed i j r s₁ m₁)
+  longer v (if t a b) listed f g e s m = charge-longer f g e (λ i j r. pick-longer (longer v a listed i j r s m) (longer v b listed i j r s m) (truth (evaluate v m t)))
+  longer v (while t a) listed f g e s m = loop-longer v t (longer v a listed) _ _ (omega arith) f g e s m
+  longer v (query at q a b) listed f g e s m = charge-longer f g e (λ i j r. pick-longer (longer v a listed i j r s m) (longer v b listed i j r s m) (holds s q))
+  longer v (update at ms) listed f g e s m = charge-longer f g e (λ i j r. pick-longer (rolled-longer r) (done-longer r) (broken listed s (mutateAll s ms)))
+  longer v (transaction at start end qs a) listed f g e s m = attempt-longer (λ f₁ g₁ e₁ s₁ m₁. longer v a qs f₁ g₁ e₁ s₁ m₁) _ _ (omega arith) f g e s m
 
 -- what a run begins with at one fuel it begins with at any other that is in range
 abbrev refuel : {s p m : List ℕ} {f : ℕ} (g : ℕ) → 1 ≤ g → g ≤ fuelLimit → Begins s p m f → Begins s p m g
@@ -114,11 +115,11 @@ module _ (s p m : List ℕ) (f g : ℕ) (more : f ≤ g) where
       let b = finished-begins s p m f h in
       let c = refuel g (omega arith) few b in
       rw (run-is s p m f b, run-is s p m g c)
-      (finish-longer s m (g - f) f g difference (longer (b .program .body) [] f g difference s m) (rw (run-is s p m f b) at h))
+      (finish-longer s m (g - f) f g difference (longer (version p) (b .program .body) [] f g difference s m) (rw (run-is s p m f b) at h))
 
   -- a run that is spent at some fuel is spent at any smaller one
   pub run-less-fuel : 1 ≤ f → run s p m g .number ≡ fuelSpent → run s p m f .number ≡ fuelSpent
   run-less-fuel some h =
       let c = spent-begins s p m g h in
       let b = refuel f some (omega arith) c in
-      rw (run-is s p m f b) (finish-shorter s m (g - f) f g difference (longer (c .program .body) [] f g difference s m) (rw (run-is s p m g c) at h))
+      rw (run-is s p m f b) (finish-shorter s m (g - f) f g difference (longer (version p) (c .program .body) [] f g difference s m) (rw (run-is s p m g c) at h))

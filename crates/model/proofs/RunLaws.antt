@@ -10,7 +10,7 @@ use borrow.Author.Tests.{eqb-true, eq-eqb, leb-true, le-leb}
 use Rattle.model.specs.Limits.{fuelLimit}
 use Rattle.model.specs.Number.{accepted, memoryLength, fuelRange, fuelSpent, Verdict, fine, refused}
 use Rattle.model.specs.Policy.{principals, roles}
-use Rattle.model.specs.Program.{variables, readProgram}
+use Rattle.model.specs.Program.{version, variables, readProgram}
 use Rattle.model.specs.Flow.{programVerdict}
 use Rattle.model.specs.Run.{Update, Result, done, rolled, spent, execute, Outcome, refusal, finish, runBody, run}
 use Rattle.model.proofs.FlowParts.{AcceptedProgram, accepted-program}
@@ -28,7 +28,7 @@ pub record Begins (s p m : List ℕ) (f : ℕ) : Type 0 where
 
 -- the result of its body
 abbrev pub result : {s p m : List ℕ} {f : ℕ} → Begins s p m f → Result
-result {s} {m} {f} b = execute (b .program .body) [] f s m
+result {s} {p} {m} {f} b = execute (version p) (b .program .body) [] f s m
 
 -- how a run goes: it is refused, it finishes, or its fuel is spent
 pub data Ran (s p m : List ℕ) (f : ℕ) : Outcome → Type 0 where
@@ -49,7 +49,7 @@ module _ (s p m : List ℕ) (f : ℕ) where
     where
       go : (x : Result) → result b ≡ x → Ran s p m f (finish s m f x)
       go (done s₁ m₁ us left) e = finishes b e
-      go (rolled s₁ us left) e = absurd (body-not-rolled (b .program .body) f s m s₁ us left e)
+      go (rolled s₁ us left) e = absurd (body-not-rolled (version p) (b .program .body) f s m s₁ us left e)
       go (spent us) e = spends b e
 
   pub ran : Ran s p m f (run s p m f)
@@ -58,7 +58,7 @@ module _ (s p m : List ℕ) (f : ℕ) where
     where
       -- after the verdict, after the memory's length, after the fuel
       afterLength : Bool → Outcome
-      afterLength b = elim b [ true ↦ runBody (readProgram p (principals s) (roles s)) s m f | false ↦ refusal fuelRange s m ]
+      afterLength b = elim b [ true ↦ runBody (version p) (readProgram p (principals s) (roles s)) s m f | false ↦ refusal fuelRange s m ]
 
       afterVerdict : Bool → Outcome
       afterVerdict b = elim b [ true ↦ afterLength (leb 1 f && leb f fuelLimit) | false ↦ refusal memoryLength s m ]

@@ -12,7 +12,7 @@ use Rattle.model.specs.Sets.{has, with}
 use Rattle.model.specs.Policy.{principals, roles, Side, Accepted, SameFixed, Agree}
 use Rattle.model.specs.Mutation.{mutate, Mutation}
 use Rattle.model.specs.Syntax.{Atom, Query, Expr, Stmt, skip, assign, empty, block, if, while, query, update, transaction}
-use Rattle.model.specs.Program.{got, readProgram}
+use Rattle.model.specs.Program.{got, version, readProgram}
 use Rattle.model.specs.Flow.{rolesOf, mutated, Around, outside, inside}
 use Rattle.model.specs.Atoms.{holds}
 use Rattle.model.specs.Value.{evaluate, truth, setValue}
@@ -87,12 +87,12 @@ module _ {R : List ℕ → List ℕ → Type 0} (steps : Steps R) where
   charge-goes zero h = nowhere
   charge-goes (suc f) h = less-goes (h f)
 
-  loop-goes : (e : Expr) {body : ℕ → List ℕ → List ℕ → Result} → BodyGoes R body → (n : ℕ) → BodyGoes R (loop e body n)
+  loop-goes : (v : ℕ) (e : Expr) {body : ℕ → List ℕ → List ℕ → Result} → BodyGoes R body → (n : ℕ) → BodyGoes R (loop v e body n)
   unfolding loop
-  loop-goes e h zero f s m = nowhere
-  loop-goes e h (suc n) zero s m = nowhere
-  loop-goes e h (suc n) (suc f) s m =
-      less-goes (pick-goes (then-goes (h f s m) (λ s₁ m₁ f₁. loop-goes e h n f₁ s₁ m₁)) (to (le-refl f) (steps .stay s) refl) (truth (evaluate m e)))
+  loop-goes v e h zero f s m = nowhere
+  loop-goes v e h (suc n) zero s m = nowhere
+  loop-goes v e h (suc n) (suc f) s m =
+      less-goes (pick-goes (then-goes (h f s m) (λ s₁ m₁ f₁. loop-goes v e h n f₁ s₁ m₁)) (to (le-refl f) (steps .stay s) refl) (truth (evaluate v m e)))
 
   attempt-goes : {body : ℕ → List ℕ → List ℕ → Result} → BodyGoes R body → (n : ℕ) → BodyGoes R (attempt body n)
   unfolding attempt
@@ -106,17 +106,17 @@ module _ {R : List ℕ → List ℕ → Type 0} (steps : Steps R) where
       again k (back {s₁ = t} {us = us} {left = g} h r) = after-goes us h r refl (k g t m)
       again k nowhere = nowhere
 
-  pub goes : (x : Stmt) → Respects R x → (listed : List Query) → BodyGoes R (execute x listed)
+  pub goes : (v : ℕ) (x : Stmt) → Respects R x → (listed : List Query) → BodyGoes R (execute v x listed)
   unfolding execute
-  goes skip h listed f s m = charge-goes f (λ left. to (le-refl left) (steps .stay s) refl)
-  goes (assign at x e) h listed f s m = charge-goes f (λ left. to (le-refl left) (steps .stay s) (length-set-value m x _))
-  goes empty h listed f s m = to (le-refl f) (steps .stay s) refl
-  goes (block a b) h listed f s m = then-goes (goes a (h .0) listed f s m) (λ s₁ m₁ f₁. goes b (h .1) listed f₁ s₁ m₁)
-  goes (if e a b) h listed f s m = charge-goes f (λ left. pick-goes (goes a (h .0) listed left s m) (goes b (h .1) listed left s m) (truth (evaluate m e)))
-  goes (while e a) h listed f s m = loop-goes e (goes a h listed) _ f s m
-  goes (query at q a b) h listed f s m = charge-goes f (λ left. pick-goes (goes a (h .0) listed left s m) (goes b (h .1) listed left s m) (holds s q))
-  goes (update at ms) h listed f s m = charge-goes f (λ left. pick-goes (back (le-refl left) (h s)) (to (le-refl left) (h s) refl) (broken listed s (mutateAll s ms)))
-  goes (transaction at start end qs a) h listed f s m = attempt-goes (λ f₁ s₁ m₁. goes a h qs f₁ s₁ m₁) _ f s m
+  goes v skip h listed f s m = charge-goes f (λ left. to (le-refl left) (steps .stay s) refl)
+  goes v (assign at x e) h listed f s m = charge-goes f (λ left. to (le-refl left) (steps .stay s) (length-set-value m x _))
+  goes v empty h listed f s m = to (le-refl f) (steps .stay s) refl
+  goes v (block a b) h listed f s m = then-goes (goes v a (h .0) listed f s m) (λ s₁ m₁ f₁. goes v b (h .1) listed f₁ s₁ m₁)
+  goes v (if e a b) h listed f s m = charge-goes f (λ left. pick-goes (goes v a (h .0) listed left s m) (goes v b (h .1) listed left s m) (truth (evaluate v m e)))
+  goes v (while e a) h listed f s m = loop-goes v e (goes v a h listed) _ f s m
+  goes v (query at q a b) h listed f s m = charge-goes f (λ left. pick-goes (goes v a (h .0) listed left s m) (goes v b (h .1) listed left s m) (holds s q))
+  goes v (update at ms) h listed f s m = charge-goes f (λ left. pick-goes (back (le-refl left) (h s)) (to (le-refl left) (h s) refl) (broken listed s (mutateAll s ms)))
+  goes v (transaction at start end qs a) h listed f s m = attempt-goes (λ f₁ s₁ m₁. goes v a h qs f₁ s₁ m₁) _ f s m
 
   -- mutations that each go along R do so together
   mutate-all-goes : (ms : List Mutation) → Each (λ k. (s : List ℕ) → R s (mutate s (k .kind) (k .role) (k .operand))) ms → (s : List ℕ) → R s (mutateAll s ms)
@@ -133,7 +133,7 @@ module _ {R : List ℕ → List ℕ → Type 0} (steps : Steps R) where
 
       go : {o : Outcome} → Ran s p m f o → R s (o .policy) × (length (o .memory) ≡ length m)
       go (refuses k some few) = (steps .stay s, refl)
-      go (finishes b e) = finished (rw e at (goes (b .program .body) (h b) [] f s m))
+      go (finishes b e) = finished (rw e at (goes (version p) (b .program .body) (h b) [] f s m))
       go (spends b e) = (steps .stay s, refl)
 
 -- the fixed part and the length, which no mutation changes
@@ -166,7 +166,7 @@ pub units-left : (s p m : List ℕ) (f : ℕ) (b : Begins s p m f) (s₁ m₁ : 
 unfolding finish
 units-left s p m f b s₁ m₁ us left e =
     let r : run s p m f ≡ finish s m f (done s₁ m₁ us left) = run-is s p m f b ∙ ap (finish s m f) e in
-    let l : left ≤ f = kept (rw e at (goes shape-steps (b .program .body) (shape-respected (b .program .body)) [] f s m)) in
+    let l : left ≤ f = kept (rw e at (goes shape-steps (version p) (b .program .body) (shape-respected (b .program .body)) [] f s m)) in
     rw r (omega arith)
   where
     kept : Goes SameShape f s m (done s₁ m₁ us left) → left ≤ f

@@ -50,11 +50,11 @@ module _ {qs : List Query} where
   charge-caused zero h = never
   charge-caused (suc f) h = h f
 
-  loop-caused : (e : Expr) {body : ℕ → List ℕ → List ℕ → Result} → BodyCaused qs body → (n : ℕ) → BodyCaused qs (loop e body n)
+  loop-caused : (v : ℕ) (e : Expr) {body : ℕ → List ℕ → List ℕ → Result} → BodyCaused qs body → (n : ℕ) → BodyCaused qs (loop v e body n)
   unfolding loop
-  loop-caused e h zero f s m = never
-  loop-caused e h (suc n) zero s m = never
-  loop-caused e h (suc n) (suc f) s m = pick-caused (truth (evaluate m e)) (λ _. then-caused (h f s m) (λ s₁ m₁ f₁. loop-caused e h n f₁ s₁ m₁)) by-none
+  loop-caused v e h zero f s m = never
+  loop-caused v e h (suc n) zero s m = never
+  loop-caused v e h (suc n) (suc f) s m = pick-caused (truth (evaluate v m e)) (λ _. then-caused (h f s m) (λ s₁ m₁ f₁. loop-caused v e h n f₁ s₁ m₁)) by-none
 
   -- a transaction begins again, and is itself never rolled back
   attempt-caused : (body : ℕ → List ℕ → List ℕ → Result) (n : ℕ) → BodyCaused qs (attempt body n)
@@ -69,30 +69,31 @@ module _ {qs : List Query} where
       again k (rolled s₁ us f₁) = after-caused us (k f₁ s₁ m)
       again k (spent us) = never
 
-caused : (x : Stmt) (listed : List Query) → BodyCaused listed (execute x listed)
-unfolding execute
-caused skip listed f s m = charge-caused f (λ left. by-none)
-caused (assign at x e) listed f s m = charge-caused f (λ left. by-none)
-caused empty listed f s m = by-none
-caused (block a b) listed f s m = then-caused (caused a listed f s m) (λ s₁ m₁ f₁. caused b listed f₁ s₁ m₁)
-caused (if e a b) listed f s m = charge-caused f (λ left. pick-caused (truth (evaluate m e)) (λ _. caused a listed left s m) (caused b listed left s m))
-caused (while e a) listed f s m = loop-caused e (caused a listed) _ f s m
-caused (query at q a b) listed f s m = charge-caused f (λ left. pick-caused (holds s q) (λ _. caused a listed left s m) (caused b listed left s m))
-caused (update at ms) listed f s m = charge-caused f (λ left. pick-caused (broken listed s (mutateAll s ms)) (λ h. by _ (List·Memᴰ·head refl) h) by-none)
-caused (transaction at start end qs a) listed f s m = attempt-caused (λ f₁ s₁ m₁. execute a qs f₁ s₁ m₁) _ f s m
+module _ (v : ℕ) where
+  caused : (x : Stmt) (listed : List Query) → BodyCaused listed (execute v x listed)
+  unfolding execute
+  caused skip listed f s m = charge-caused f (λ left. by-none)
+  caused (assign at x e) listed f s m = charge-caused f (λ left. by-none)
+  caused empty listed f s m = by-none
+  caused (block a b) listed f s m = then-caused (caused a listed f s m) (λ s₁ m₁ f₁. caused b listed f₁ s₁ m₁)
+  caused (if e a b) listed f s m = charge-caused f (λ left. pick-caused (truth (evaluate v m e)) (λ _. caused a listed left s m) (caused b listed left s m))
+  caused (while e a) listed f s m = loop-caused v e (caused a listed) _ f s m
+  caused (query at q a b) listed f s m = charge-caused f (λ left. pick-caused (holds s q) (λ _. caused a listed left s m) (caused b listed left s m))
+  caused (update at ms) listed f s m = charge-caused f (λ left. pick-caused (broken listed s (mutateAll s ms)) (λ h. by _ (List·Memᴰ·head refl) h) by-none)
+  caused (transaction at start end qs a) listed f s m = attempt-caused (λ f₁ s₁ m₁. execute v a qs f₁ s₁ m₁) _ f s m
 
--- a statement none of whose updates failed a listed query is not rolled back
-pub no-break-no-rollback : (x : Stmt) (listed : List Query) (f : ℕ) (s m : List ℕ) → NoneBroken listed (updatesOf (execute x listed f s m))
-    → (s₁ : List ℕ) (us : List Update) (left : ℕ) → execute x listed f s m ≡ rolled s₁ us left → ⊥
-no-break-no-rollback x listed f s m none s₁ us left e = contradiction (rw e at (caused x listed f s m)) (rw e at none)
-  where
-    contradiction : Caused listed (rolled s₁ us left) → NoneBroken listed us → ⊥
-    contradiction (by u i h) k = true≢false (sym h ∙ k u i)
+  -- a statement none of whose updates failed a listed query is not rolled back
+  pub no-break-no-rollback : (x : Stmt) (listed : List Query) (f : ℕ) (s m : List ℕ) → NoneBroken listed (updatesOf (execute v x listed f s m))
+      → (s₁ : List ℕ) (us : List Update) (left : ℕ) → execute v x listed f s m ≡ rolled s₁ us left → ⊥
+  no-break-no-rollback x listed f s m none s₁ us left e = contradiction (rw e at (caused x listed f s m)) (rw e at none)
+    where
+      contradiction : Caused listed (rolled s₁ us left) → NoneBroken listed us → ⊥
+      contradiction (by u i h) k = true≢false (sym h ∙ k u i)
 
--- so a program's body, around which no transaction lists a query, never is
-pub body-not-rolled : (x : Stmt) (f : ℕ) (s m s₁ : List ℕ) (us : List Update) (left : ℕ) → execute x [] f s m ≡ rolled s₁ us left → ⊥
-unfolding broken
-body-not-rolled x f s m = no-break-no-rollback x [] f s m (λ u i. refl)
+  -- so a program's body, around which no transaction lists a query, never is
+  pub body-not-rolled : (x : Stmt) (f : ℕ) (s m s₁ : List ℕ) (us : List Update) (left : ℕ) → execute v x [] f s m ≡ rolled s₁ us left → ⊥
+  unfolding broken
+  body-not-rolled x f s m = no-break-no-rollback x [] f s m (λ u i. refl)
 
 -- what was carried out before a restart stays among the updates
 among : (us : List Update) (y : Result) {u : Update} → List·Memᴰ u us → List·Memᴰ u (updatesOf (after us y))
@@ -116,8 +117,8 @@ one-start {qs} body n f s m = once
     once never none = refl
 
 -- and a transaction is its body, after the one unit of its one start
-pub no-break-no-restart : (at start end : ℕ) (qs : List Query) (a : Stmt) (listed : List Query) (f : ℕ) (s m : List ℕ)
-    → NoneBroken qs (updatesOf (execute (transaction at start end qs a) listed (suc f) s m))
-    → execute (transaction at start end qs a) listed (suc f) s m ≡ execute a qs f s m
+pub no-break-no-restart : (v at start end : ℕ) (qs : List Query) (a : Stmt) (listed : List Query) (f : ℕ) (s m : List ℕ)
+    → NoneBroken qs (updatesOf (execute v (transaction at start end qs a) listed (suc f) s m))
+    → execute v (transaction at start end qs a) listed (suc f) s m ≡ execute v a qs f s m
 unfolding execute
-no-break-no-restart at start end qs a listed f s m = one-start (execute a qs) _ f s m (caused a qs f s m)
+no-break-no-restart v at start end qs a listed f s m = one-start (execute v a qs) _ f s m (caused v a qs f s m)

@@ -15,7 +15,7 @@ use Rattle.model.specs.Number.{programRange}
 use Rattle.model.specs.Bytes.{byte, word}
 use Rattle.model.specs.Policy.{reading, trust}
 use Rattle.model.specs.Mutation.{Kind, addMember, deleteMember, addTaken, deleteTaken, Mutation}
-use Rattle.model.specs.Syntax.{of, Atom, role, fixed, atomByte, Query, Operator, sum, difference, product, quotient, less, equal, Expr, constant, variable, binary, Stmt, skip, assign, if, while, query, update, transaction}
+use Rattle.model.specs.Syntax.{of, Atom, role, fixed, atomByte, Query, Operator, sum, difference, product, quotient, less, equal, rounded, Expr, constant, variable, binary, Stmt, skip, assign, if, while, query, update, transaction}
 use Rattle.model.specs.Program.{Read, got, bad, andThen, readByte, readBelow, readMany, atomAt, readAtom, readQuery, mutationAt, readMutation, binaryAt, exprAt, readExpr, blockOf, assignAt, blockAt, ifAt, whileAt, queryAt, updateAt, transactionAt, stmtAt, readStmt}
 
 -- a refusal gives nothing
@@ -213,7 +213,7 @@ module _ (p : List ℕ) (P R at : ℕ) where
 pub mutations-end : (p : List ℕ) (P R n at : ℕ) {ms : List Mutation} {end : ℕ} → readMany (readMutation p P R) n at ≡ got ms end → at ≤ length p → (end ≡ at + 3 * n) × (end ≤ length p)
 mutations-end p P R n at = many-end (readMutation p P R) p 3 n at (λ at x end e. let u = mutation-parts p P R at e in (u .ends, omega arith))
 
--- expressions
+-- expressions: an operator's code, and for the quotient of version 2, which no byte names, the next one
 abbrev pub operatorCode : Operator → ℕ
 operatorCode sum = 2
 operatorCode difference = 3
@@ -221,6 +221,7 @@ operatorCode product = 4
 operatorCode quotient = 5
 operatorCode less = 6
 operatorCode equal = 7
+operatorCode rounded = 8
 
 pub record BinaryParts (p : List ℕ) (vars d at : ℕ) (op : Operator) (e : Expr) (end : ℕ) : Type 0 where
   pub left : Expr
@@ -289,6 +290,7 @@ module _ (p : List ℕ) (vars d at : ℕ) {e : Expr} {end : ℕ} (h : readExpr p
   operands quotient c = rw c at (expr-coded .2)
   operands less c = rw c at (expr-coded .2)
   operands equal c = rw c at (expr-coded .2)
+  operands rounded c = absurd (refused-not (rw c at (expr-coded .2)))
 
   pub binary-parts : (op : Operator) → byte p at ≡ operatorCode op → BinaryParts p vars d at op e end
   unfolding binaryAt

@@ -48,15 +48,15 @@ alike-trans {S} a b = record {
   values = λ x l o. a .values x l o ∙ b .values x l (sym (open-same (a .near) (labelOf S x)) ∙ o);
 }
 
--- an expression whose label is open has one value
-pub evaluate-same : {S : Setting} {s m t n : List ℕ} → Alike S s m t n → (e : Expr) → ExprFits (variables (S .program)) e
-    → Open S s (exprLabel (S .program) (S .side) e) → evaluate m e ≡ evaluate n e
+-- an expression whose label is open has one value, in a program of any version
+pub evaluate-same : {S : Setting} {s m t n : List ℕ} → Alike S s m t n → (v : ℕ) (e : Expr) → ExprFits (variables (S .program)) e
+    → Open S s (exprLabel (S .program) (S .side) e) → evaluate v m e ≡ evaluate v n e
 unfolding evaluate exprLabel
-evaluate-same a (constant c) f o = refl
-evaluate-same {S} a (variable x) f o = a .values x f (o (labelOf S x) (List·Memᴰ·head refl))
-evaluate-same {S} a (binary op c d) f o = rw (
-  evaluate-same a c (f .0) (λ x i. o x (Memᴰ·append-left _ i)),
-  evaluate-same a d (f .1) (λ x i. o x (Memᴰ·append-right (exprLabel (S .program) (S .side) c) i)),
+evaluate-same a v (constant c) f o = refl
+evaluate-same {S} a v (variable x) f o = a .values x f (o (labelOf S x) (List·Memᴰ·head refl))
+evaluate-same {S} a v (binary op c d) f o = rw (
+  evaluate-same a v c (f .0) (λ x i. o x (Memᴰ·append-left _ i)),
+  evaluate-same a v d (f .1) (λ x i. o x (Memᴰ·append-right (exprLabel (S .program) (S .side) c) i)),
 )
 
 value-other : (m : List ℕ) (x v y : ℕ) → (y ≡ x → ⊥) → valueAt (setValue m x v) y ≡ valueAt m y

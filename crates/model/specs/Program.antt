@@ -39,9 +39,13 @@ unfoldable pub readMany : {A : Type 0} → (ℕ → Read A) → ℕ → ℕ → 
 readMany sub zero at = got [] at
 readMany sub (suc n) at = andThen (sub at) (λ x mid. andThen (readMany sub n mid) (λ xs end. got (x ∷ xs) end))
 
--- the mark RXP and version 1 in 16 bits
-abbrev pub programHead : List ℕ
-programHead = 0x52 ∷ 0x58 ∷ 0x50 ∷ 1 ∷ 0 ∷ []
+-- a program's version: 2 where its byte says so, else 1, and its head is held to that
+unfoldable pub version : List ℕ → ℕ
+version s = cond (eqb (byte s 3) 2) 2 1
+
+-- the mark RXP and a version in 16 bits
+abbrev pub programHead : ℕ → List ℕ
+programHead v = 0x52 ∷ 0x58 ∷ 0x50 ∷ v ∷ 0 ∷ []
 
 -- an atom's byte: C0–FE is none, and its role is below R
 unfoldable pub atomAt : ℕ → ℕ → ℕ → ℕ → Read Atom
@@ -182,7 +186,7 @@ readBody s P R vars at =
 unfoldable pub readProgram : List ℕ → ℕ → ℕ → Read Stmt
 readProgram s P R =
     cond (leb (length s) programBytes)
-    (andThen (readMark s programHead 0)
+    (andThen (readMark s (programHead (version s)) 0)
     (λ _ p. andThen (readBelow s (suc variableLimit) p)
     (λ vars q. andThen (readMany (readLabel s R) (2 * vars) q)
     (λ _ at. readBody s P R vars at))))

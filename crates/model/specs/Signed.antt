@@ -1,6 +1,6 @@
 -- Values as the integers that they stand for, and what congruence and a quotient are among integers: the words of the laws
 -- that the operators' definitions in `Value` are held to.
-use Prim.Native.Nat.{ℕ, _≤_, _<_, _^_}
+use Prim.Native.Nat.{ℕ, _*_, _≤_, _<_, _^_}
 use mathlib.Core.Path.{_≡_}
 use mathlib.Core.Bool.{cond}
 use lib.Dec.{leb}
@@ -21,3 +21,11 @@ pub record Quotient (x y q : ℤ) : Type 0 where
   pub whole : x ≡ q *ℤ y +ℤ rest
   pub small : natAbs rest < natAbs y
   pub towards-zero : natAbs (q *ℤ y) ≤ natAbs x
+
+-- q is the nearest to x by y, halves away from zero: q times y is off x by at most half of y and, where by just half, no nearer
+-- to zero than x
+pub record Nearest (x y q : ℤ) : Type 0 where
+  pub rest : ℤ
+  pub whole : x ≡ q *ℤ y +ℤ rest
+  pub at-most-half : 2 * natAbs rest ≤ natAbs y
+  pub halves-away : 2 * natAbs rest ≡ natAbs y → natAbs x ≤ natAbs (q *ℤ y)

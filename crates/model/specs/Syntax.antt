@@ -31,8 +31,9 @@ pub record Query : Type 0 where
 abbrev pub sameQuery : Query → Query → Bool
 sameQuery q k = eqb (atomByte (q .first)) (atomByte (k .first)) && eqb (atomByte (q .second)) (atomByte (k .second))
 
+-- the operators that a byte names, and the quotient of version 2, which none does: there an expression's quotient is this one
 pub data Operator : Type 0 where
-  sum difference product quotient less equal : Operator
+  sum difference product quotient less equal rounded : Operator
 
 -- a constant as 32 bits, a variable, an operator of two expressions
 pub data Expr : Type 0 where

@@ -1,5 +1,6 @@
 -- A law for each return of file.rt: what was read so far says which case of the definition is left.
 use mathlib.Core.Path.{_≡_, sym, _∙_}
+use mathlib.Core.Logic.{⊎-elim}
 use Prim.Native.Nat.{ℕ, suc, _+_, _*_, _<_, _≤_}
 use mathlib.Core.List.{List, [], _∷_}
 use mathlib.Core.Bool.{Bool, true, false, cond}
@@ -14,7 +15,8 @@ use borrow.Author.Tests.{le-leb, lt-leb, eq-eqb, ne-eqb}
 use Rattle.model.specs.Limits.{programBytes, variableLimit, statementDepth}
 use Rattle.model.specs.Number.{programMark}
 use Rattle.model.specs.Bytes.{byte}
-use Rattle.model.specs.Program.{bad, andThen, readBelow, readMark, readMany, readLabel, readStmt, readBody, readProgram, programHead}
+use Rattle.model.specs.Program.{bad, andThen, readBelow, readMark, readMany, readLabel, readStmt, readBody, readProgram, version, programHead}
+use Rattle.model.proofs.Reading.{one-or-two}
 use Rattle.shared.specs.Marks.{matching}
 use Rattle.program.specs.Answer.{Reached, reached, stopped, placeLimit, refusal, told, endOf, readVariables}
 use Rattle.program.proofs.AnswerLaws.{position-told, tell-refusal, answer-told, tells, then-at, then-refused, then-stopped, byte-there, byte-missing}
@@ -70,6 +72,16 @@ module _ (s m : List ℕ) (k : ℕ) (e : k ≡ matching s m) where
 
 pub ruleset marks = (mark-read, mark-missing, mark-differs, tells)
 
+-- the head of the version that the program is of
+module _ (s : List ℕ) (v r : ℕ) (e : v ≡ version s) where
+  pub head-two : v ≡ 2 → told r ≡ endOf (readMark s (programHead 2) 0) → told r ≡ endOf (readMark s (programHead (version s)) 0)
+  head-two h g = rw (← e, h) g
+
+  pub head-one : (v ≡ 2 → ⊥) → told r ≡ endOf (readMark s (programHead 1) 0) → told r ≡ endOf (readMark s (programHead (version s)) 0)
+  head-one n g = ⊎-elim (λ o. rw o g) (λ t. absurd (n (e ∙ t))) (one-or-two s)
+
+pub ruleset heads = (head-two, head-one)
+
 -- the body
 module _ (s : List ℕ) (P R v at a : ℕ) (e : told a ≡ endOf (readStmt s P R v statementDepth at)) where
   pub body-refused : placeLimit ≤ a → told a ≡ endOf (readBody s P R v at)
@@ -115,13 +127,13 @@ module _ (s : List ℕ) (P R : ℕ) where
   unfolding readProgram endOf
   program-long h = simp (lt-leb _ _ h)
 
-  module _ (l : length s ≤ programBytes) (a : ℕ) (e : told a ≡ endOf (readMark s programHead 0)) where
+  module _ (l : length s ≤ programBytes) (a : ℕ) (e : told a ≡ endOf (readMark s (programHead (version s)) 0)) where
     pub program-mark : placeLimit ≤ a → told a ≡ endOf (readProgram s P R)
     unfolding readProgram
-    program-mark h = simp (le-leb _ _ l) (then-refused (readMark s programHead 0) _ e h)
+    program-mark h = simp (le-leb _ _ l) (then-refused (readMark s (programHead (version s)) 0) _ e h)
 
     pub program-rest : (r : ℕ) → a < placeLimit → told r ≡ endOf (readVariables s P R a) → told r ≡ endOf (readProgram s P R)
     unfolding readProgram readVariables
-    program-rest r h g = simp (le-leb _ _ l) (then-at (readMark s programHead 0) _ e h (λ x. g))
+    program-rest r h g = simp (le-leb _ _ l) (then-at (readMark s (programHead (version s)) 0) _ e h (λ x. g))
 
 pub ruleset programs = (program-long, program-mark, program-rest, answer-told)

@@ -1,32 +1,44 @@
 // Reading a whole program: its mark and version, V, the labels of the variables, one statement, nothing more.
 ghost use mathlib.Core.Path.{_≡_};
 ghost use Prim.Native.Nat.{_≤_};
+ghost use lib.ListN.{length};
 ghost use Rattle.model.specs.Limits.{roleLimit};
-ghost use Rattle.model.specs.Program.{programHead, readMark, readBody, readProgram};
+ghost use Rattle.model.specs.Program.{version, programHead, readMark, readBody, readProgram};
 ghost use Rattle.program.specs.Answer.{reachedBy, told, Within, endOf, readVariables};
 use super::statements;
 use program::answer;
 use program::answer::Answer;
 use program::entries;
 use program::entries::Entry;
+use program::layout;
 use shared::bytes;
 use shared::limit;
 use shared::number;
 
-// The mark and version at the head: of their bytes the first that is missing is 10, the first that differs 11.
-fn read_head(program: &[u8]) -> u64
-    requires { ⌜ Within (now program) 0 ⌝ }
-    ensures { λ r. ⌜ told r ≡ endOf (readMark (now (program .entry)) programHead 0) ⌝ }
+// The bytes of a mark at the head: the first that is missing is 10, the first that differs 11.
+fn read_mark(program: &[u8], mark: &[u8]) -> u64
+    requires { ⌜ Within (now program) (length (now mark)) ⌝ }
+    ensures { λ r. ⌜ told r ≡ endOf (readMark (now (program .entry)) (now (mark .entry)) 0) ⌝ }
 {
-    let head = b"RXP\x01\x00";
-    let same = bytes::matching(program, head);
-    if same == head.len() {
+    let same = bytes::matching(program, mark);
+    if same == mark.len() {
         return same as u64;
     }
     if same < program.len() {
         return answer::refused(number::PROGRAM_MARK, same);
     }
     answer::refused(number::PROGRAM_LENGTH, program.len())
+}
+
+// Mark and version at the head: of two fixed byte strings the one of the version that the program states.
+fn read_head(program: &[u8]) -> u64
+    requires { ⌜ Within (now program) 0 ⌝ }
+    ensures { λ r. ⌜ told r ≡ endOf (readMark (now (program .entry)) (programHead (version (now (program .entry)))) 0) ⌝ }
+{
+    if layout::version_of(program) == 2 {
+        return read_mark(program, b"RXP\x02\x00");
+    }
+    read_mark(program, b"RXP\x01\x00")
 }
 
 // One statement, and nothing more.

@@ -1,13 +1,25 @@
-// Where things stand in a program file: after mark and version V, then V pairs of label bytes, then the body. No other
+// Where things stand in a program file: the mark, the version, V, then V pairs of label bytes, then the body. No other
 // module knows these positions. Each function takes any program and any number; past the end stands 0.
 ghost use mathlib.Core.Path.{_≡_};
-ghost use Rattle.model.specs.Program.{variables, labelAt, labelByte, bodyAt};
+ghost use Rattle.model.specs.Program.{version, variables, labelAt, labelByte, bodyAt};
 ghost use Rattle.program.specs.Layout.{sideOf};
 use shared::bytes;
+
+const VERSION: usize = 3;
 
 const VARIABLES: usize = 5;
 
 const LABELS: usize = 6;
+
+// A program's version, by the low byte of its 16 bits: 2 or else 1. That the bits say nothing else, reading the head sees to.
+pub fn version_of(program: &[u8]) -> u8
+    ensures { λ r. ⌜ r ≡ version (now (program .entry)) ⌝ }
+{
+    if bytes::byte_at(program, VERSION) == 2 {
+        return 2;
+    }
+    1
+}
 
 // How many variables a program has.
 pub fn variables_of(program: &[u8]) -> u8

@@ -1,1 +1,1 @@
-mod ValueLaws
+pub mod ValueLaws

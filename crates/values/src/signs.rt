@@ -1,6 +1,8 @@
 // A value's bits as the integer that they stand for in two's complement, and back.
 ghost use mathlib.Core.Path.{_≡_};
 ghost use Rattle.model.specs.Signed.{signed};
+ghost use Rattle.model.specs.Value.{magnitude};
+ghost use Rattle.values.specs.Signs.{outward};
 
 // How many values there are, and two of them: the lowest and minus one.
 pub const MODULUS: u64 = 0x1_0000_0000;
@@ -31,5 +33,27 @@ pub fn value_of(n: i32) -> u32
         ((n as i64) + PERIOD) as u32
     } else {
         n as u32
+    }
+}
+
+// How far a value is from zero. That of the lowest is 2^31, which is no i32.
+pub fn size_of(v: u32) -> u32
+    ensures { λ r. ⌜ r ≡ magnitude v ⌝ }
+{
+    if v < LOWEST {
+        v
+    } else {
+        std::num::wrapping_sub_u32(0, v)
+    }
+}
+
+// One on the side of zero where the quotient of two values stands, which a quotient of 0 does not show.
+pub fn outward(a: u32, b: u32) -> u32
+    ensures { λ r. ⌜ r ≡ outward a b ⌝ }
+{
+    if a < LOWEST {
+        if b < LOWEST { 1 } else { MINUS_ONE }
+    } else {
+        if b < LOWEST { MINUS_ONE } else { 1 }
     }
 }

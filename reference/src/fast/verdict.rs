@@ -192,7 +192,11 @@ impl<'a, const RUN: bool> Pass<'a, RUN> {
         const MARK: u64 = u64::from_le_bytes(*b"RXP\x01\x00\0\0\0");
         let wrong = (head ^ MARK) & 0xFF_FFFF_FFFF;
         if wrong != 0 {
-            return Err((11, self.start.add(wrong.trailing_zeros() as usize / 8)));
+            // In version 2 the byte of the version is not wrong; the others may be.
+            let wrong = if (head >> 24) as u8 == 2 { wrong & !0xFF00_0000 } else { wrong };
+            if wrong != 0 {
+                return Err((11, self.start.add(wrong.trailing_zeros() as usize / 8)));
+            }
         }
         let count = *self.start.add(5);
         if count > 64 {

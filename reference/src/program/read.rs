@@ -12,12 +12,13 @@ impl Program {
             return Err(Refusal { number: number::PROGRAM_LENGTH, place: MOST_BYTES });
         }
         let mut reader = Reader { policy, bytes, at: 0, variables: 0 };
-        reader.mark_and_version()?;
+        reader.mark()?;
+        let version = reader.version()?;
         reader.variables = reader.up_to(MOST_VARIABLES)?;
         let labels = reader.times(reader.variables, Reader::labels)?;
         let statement = reader.statement(1)?;
         match reader.at == bytes.len() {
-            true => Ok(Program { labels, statement }),
+            true => Ok(Program { version, labels, statement }),
             false => Err(Refusal { number: number::PROGRAM_LENGTH, place: reader.at }),
         }
     }
@@ -77,13 +78,26 @@ impl Reader<'_> {
         Ok(all)
     }
 
-    fn mark_and_version(&mut self) -> Result<(), Refusal> {
-        for expected in MARK_AND_VERSION {
+    fn mark(&mut self) -> Result<(), Refusal> {
+        for expected in MARK {
             if self.byte()? != expected {
                 return self.refused(number::PROGRAM_MARK);
             }
         }
         Ok(())
+    }
+
+    /// 1 or 2 in 16 bits, of which the low byte is judged before the high one is looked for.
+    fn version(&mut self) -> Result<Version, Refusal> {
+        let version = match self.byte()? {
+            0x01 => Version::One,
+            0x02 => Version::Two,
+            _ => return self.refused(number::PROGRAM_MARK),
+        };
+        match self.byte()? {
+            0x00 => Ok(version),
+            _ => self.refused(number::PROGRAM_MARK),
+        }
     }
 
     fn labels(&mut self) -> Result<Labels, Refusal> {

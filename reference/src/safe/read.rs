@@ -11,7 +11,7 @@ use super::tree::{
     Root, Statement, Transaction, Tree, Written, EVERYONE,
 };
 
-const MARK_AND_VERSION: [u8; 5] = *b"RXP\x01\x00";
+const MARK: [u8; 3] = *b"RXP";
 const MOST_BYTES: usize = 4096;
 const MOST_VARIABLES: u8 = 64;
 const MOST_MUTATIONS: u8 = 16;
@@ -120,7 +120,8 @@ fn make_room<T>(items: &mut Vec<T>, count: usize) {
 
 impl Reader<'_> {
     fn program(&mut self) -> Result<(), Refusal> {
-        self.mark_and_version()?;
+        self.mark()?;
+        self.version()?;
         self.labels()?;
         // A statement has a byte at least.
         self.tree.statements.reserve_exact(self.bytes_left());
@@ -171,12 +172,21 @@ impl Reader<'_> {
         Ok(byte)
     }
 
-    fn mark_and_version(&mut self) -> Result<(), Refusal> {
-        for expected in MARK_AND_VERSION {
+    fn mark(&mut self) -> Result<(), Refusal> {
+        for expected in MARK {
             if self.byte()? != expected {
                 return self.refused(Number::ProgramMark);
             }
         }
+        Ok(())
+    }
+
+    fn version(&mut self) -> Result<(), Refusal> {
+        let low = self.byte()?;
+        if !matches!(low, 1 | 2) || self.byte()? != 0 {
+            return self.refused(Number::ProgramMark);
+        }
+        self.tree.rounds = low == 2;
         Ok(())
     }
 

@@ -7,6 +7,8 @@ use std::ops::BitOr;
 pub struct Tree<'a> {
     /// The program's own bytes, where its constants are left.
     bytes: &'a [u8],
+    /// Whether quotients go to the nearest whole number, as in version 2.
+    pub rounds: bool,
     /// The labels of each variable.
     pub labels: Vec<Label>,
     pub statements: Vec<Statement>,
@@ -162,6 +164,7 @@ impl<'a> Tree<'a> {
     pub const fn new(bytes: &'a [u8]) -> Tree<'a> {
         Tree {
             bytes,
+            rounds: false,
             labels: Vec::new(),
             statements: Vec::new(),
             expressions: Vec::new(),

@@ -3,7 +3,7 @@
 use reference::encode::encode as encode_program;
 use reference::generate::encode;
 use reference::policy::{Policy, Row, MOST_PRINCIPALS};
-use reference::program::{Atom, Expression, Operator, Program, Query, Statement};
+use reference::program::{Atom, Expression, Operator, Program, Query, Statement, Version};
 use reference::run::call::{bytes, MOST_FUEL};
 use reference::shapes::*;
 
@@ -30,7 +30,12 @@ pub fn open(roles: u8, takes: impl Fn(u8) -> u64) -> Policy {
 
 /// Open variables, a statement, and fuel that is enough.
 pub fn input(policy: &Policy, memory: &[i32], statement: Statement) -> Input {
-    let mut tree = Program { labels: vec![OPEN; memory.len()], statement };
+    input_of(Version::One, policy, memory, statement)
+}
+
+/// The same in either version.
+pub fn input_of(version: Version, policy: &Policy, memory: &[i32], statement: Statement) -> Input {
+    let mut tree = Program { version, labels: vec![OPEN; memory.len()], statement };
     let program = encode_program(&mut tree).bytes;
     Input { policy: encode(policy), program, memory: bytes(memory), fuel: MOST_FUEL }
 }

@@ -7,7 +7,7 @@ use reference::encode::encode as encode_program;
 use reference::generate::encode;
 use reference::generate_program::Case;
 use reference::policy::Policy;
-use reference::program::{Atom, Expression, Kind, Operator, Program, Query, Statement};
+use reference::program::{Atom, Expression, Kind, Operator, Program, Query, Statement, Version};
 use reference::shapes::*;
 use reference::{fast, flow, largest, proved_program, safe};
 
@@ -75,7 +75,10 @@ fn verdicts() -> Vec<(&'static str, Case)> {
 }
 
 fn smallest() -> Case {
-    Case { policy: minimal(), program: Program { labels: vec![], statement: skip() } }
+    Case {
+        policy: minimal(),
+        program: Program { version: Version::One, labels: vec![], statement: skip() },
+    }
 }
 
 fn policy() -> Policy {
@@ -84,7 +87,10 @@ fn policy() -> Policy {
 
 /// Four open variables and a statement, under 64 roles.
 fn of(statement: Statement) -> Case {
-    Case { policy: policy(), program: Program { labels: vec![OPEN; 4], statement } }
+    Case {
+        policy: policy(),
+        program: Program { version: Version::One, labels: vec![OPEN; 4], statement },
+    }
 }
 
 /// 16 queries between roles that all view.

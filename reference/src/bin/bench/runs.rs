@@ -5,7 +5,7 @@ use std::ptr::{read_volatile, write_volatile};
 
 use reference::generate::{chain_onward, dense};
 use reference::policy::Policy;
-use reference::program::{Atom, Expression, Kind, Operator, Query, Statement};
+use reference::program::{Atom, Expression, Kind, Operator, Query, Statement, Version};
 use reference::proved_program;
 use reference::shapes::*;
 
@@ -62,6 +62,7 @@ fn native_loop(mut memory: Box<[u32; 2]>) -> Box<[u32; 2]> {
 fn runs() -> Vec<(&'static str, Input, u32)> {
     let one = || minimal();
     let plain = |memory: &[i32], statement| input(&one(), memory, statement);
+    let of = |version, statement| input_of(version, &one(), &[0, 1, 0, 0, 40], statement);
     let pairs: Vec<Query> =
         (0..16).map(|index| Query(Atom::Role(4 * index), Atom::Role(4 * index + 1))).collect();
     vec![
@@ -82,6 +83,10 @@ fn runs() -> Vec<(&'static str, Input, u32)> {
             1_000_000,
         ),
         ("quotients", plain(&[0, 1, 3], quotients()), 1_000_000),
+        ("quotients of any signs, version 1", of(Version::One, any_quotients()), 999_996),
+        ("quotients of any signs, version 2", of(Version::Two, any_quotients()), 999_996),
+        ("quotients in 7 operators, version 1", of(Version::One, quotients_in_seven()), 999_997),
+        ("quotients in 7 operators, version 2", of(Version::Two, quotients_in_seven()), 999_997),
         ("queries, 1 role", input(&one(), &[0], queries(28_000, &about_one_role())), 952_002),
         (
             "queries, 64 roles in a chain",
@@ -151,6 +156,32 @@ fn line_to_the_left(operators: usize) -> Expression {
 /// Three units a turn.
 fn quotients() -> Statement {
     turns(333_333, [assign(1, binary(Operator::Quotient, variable(0), variable(2)))])
+}
+
+fn quotient(left: Expression, right: Expression) -> Expression {
+    binary(Operator::Quotient, left, right)
+}
+
+/// The next of a row of numbers of any size and sign, so that nobody can foresee which way a quotient of
+/// them is rounded.
+fn next_number() -> Statement {
+    let product = binary(Operator::Product, variable(1), constant(1_664_525));
+    assign(1, plus(product, constant(1_013_904_223)))
+}
+
+/// Five units a turn: a number, its quotients by the count and by 40, whose signs it has.
+fn any_quotients() -> Statement {
+    let by_count = assign(2, quotient(variable(1), variable(0)));
+    turns(199_999, [next_number(), by_count, assign(3, quotient(variable(1), variable(4)))])
+}
+
+/// Four units a turn: a number, and two sums of quotients, of which one is taken from the other.
+fn quotients_in_seven() -> Statement {
+    let by_count = || quotient(variable(1), variable(0));
+    let first = plus(by_count(), quotient(variable(1), variable(4)));
+    let second = plus(quotient(variable(0), variable(4)), by_count());
+    let whole = binary(Operator::Difference, first, second);
+    turns(249_999, [next_number(), assign(2, whole)])
 }
 
 /// Two roles, of which the first takes in the second, which has a member.
