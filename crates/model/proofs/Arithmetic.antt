@@ -8,12 +8,12 @@ use mathlib.Core.Bool.{Bool, true, false, cond}
 use lib.Dec.{eqb, ltb, leb}
 use lib.IntN.{ℤ, pos, negsuc, negℤ, natAbs, _+ℤ_, _-ℤ_, _*ℤ_, +ℤ-idl, +ℤ-idr, *ℤ-comm, negℤ-+ℤ, negℤ-negℤ, +ℤ-negℤ-cancel, pos-ne-negsuc}
 use lib.Signed.{ltZ, quotZ, remZ}
-use borrow.Author.Tests.{le-leb, lt-leb, leb-true, leb-false, ltb-true, lt-ltb, le-ltb, eq-eqb, ne-eqb}
+use borrow.Author.Tests.{le-leb, lt-leb, ltb-true, lt-ltb, le-ltb, eq-eqb, ne-eqb}
 use Rattle.model.specs.Syntax.{Operator, sum, difference, product, quotient, less, equal, rounded}
 use Rattle.model.specs.Value.{lowest, modulus, negative, negate, magnitude, dropped, nearest, quotientBy, asValue, apply}
 use Rattle.model.specs.Signed.{signed, Congruent, Quotient, Nearest}
 use Rattle.model.proofs.Truth.{same-truth}
-use Rattle.model.proofs.Integers.{add-mul, neg-mul, mul-neg, abs-neg, flip-congruent, then-congruent, neg-congruent, sum-congruent, low-congruent, moved, period}
+use Rattle.model.proofs.Integers.{add-mul, neg-mul, abs-neg, flip-congruent, then-congruent, neg-congruent, sum-congruent, low-congruent, moved, period}
 
 -- a value's bits are congruent to what it stands for
 signed-congruent : (a : ℕ) → Congruent (signed a) (pos a)
@@ -124,7 +124,7 @@ size-some a l some = go (decLt a (2 ^ 31))
     go (yes p) = rw (lt-leb lowest a p) (omega arith)
     go (no p) = let minus : 2 ^ 31 ≤ a = omega arith in rw (le-leb lowest a minus) (omega arith)
 
-pub size-within : (a : ℕ) → magnitude a ≤ 2 ^ 31
+size-within : (a : ℕ) → magnitude a ≤ 2 ^ 31
 size-within a = go (decLt a (2 ^ 31))
   where
     go : Dec (a < 2 ^ 31) → magnitude a ≤ 2 ^ 31

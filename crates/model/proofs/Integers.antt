@@ -2,7 +2,7 @@
 use Prim.Native.Nat.{ℕ, zero, suc, _/_, _%_, _^_}
 use native.Mathlib.Nat.{mod-add-div'}
 use mathlib.Core.Path.{_≡_, refl, sym, _∙_, ap, ap₂}
-use lib.IntN.{ℤ, pos, negsuc, sucℤ, predℤ, negℤ, natAbs, _+ℤ_, _-ℤ_, _*ℤ_, negℤ-negℤ, negℤ-+ℤ, +ℤ-sucℤ, +ℤ-predℤ, +ℤ-idr, +ℤ-assoc, +ℤ-comm, +ℤ-negℤ-cancel, zero-*ℤ, sucℤ-*ℤ, predℤ-*ℤ, *ℤ-comm}
+use lib.IntN.{ℤ, pos, negsuc, sucℤ, predℤ, negℤ, natAbs, _+ℤ_, _-ℤ_, _*ℤ_, negℤ-negℤ, negℤ-+ℤ, +ℤ-sucℤ, +ℤ-predℤ, +ℤ-idr, +ℤ-assoc, +ℤ-comm, +ℤ-negℤ-cancel, zero-*ℤ, sucℤ-*ℤ, predℤ-*ℤ}
 use Rattle.model.specs.Signed.{Congruent}
 
 -- the product distributes over the sum: one more in the second summand, one less, then all
@@ -31,9 +31,6 @@ neg-mul (pos (suc n)) (pos b) = refl
 neg-mul (pos (suc n)) (negsuc b) = sym (negℤ-negℤ _)
 neg-mul (negsuc n) (pos b) = sym (negℤ-negℤ _)
 neg-mul (negsuc n) (negsuc b) = refl
-
-pub mul-neg : (x y : ℤ) → x *ℤ negℤ y ≡ negℤ (x *ℤ y)
-mul-neg x y = *ℤ-comm x (negℤ y) ∙ neg-mul y x ∙ ap negℤ (*ℤ-comm y x)
 
 pub abs-neg : (x : ℤ) → natAbs (negℤ x) ≡ natAbs x
 abs-neg (pos zero) = refl

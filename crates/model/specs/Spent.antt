@@ -21,8 +21,8 @@ costs (query at q a b) = true
 costs (update at ms) = true
 costs (transaction at start end qs a) = true
 
--- a statement of a program of some version, in a transaction that lists these queries, comes, with this fuel, from a policy and a memory and after
--- these updates, to a unit that is wanted with none left
+-- a statement of a program of some version, in a transaction that lists these queries, comes, with this fuel, from a policy
+-- and a memory and after these updates, to a unit that is wanted with none left
 pub data Wanted (v : ℕ) : List Query → Stmt → ℕ → List ℕ → List ℕ → List Update → Type 0 where
   -- its own first unit
   at-once : {l : List Query} {x : Stmt} {s m : List ℕ} → costs x ≡ true → Wanted v l x 0 s m []
