@@ -1,3 +1,4 @@
+#![tactic(auto)]
 // Walks over the bytes of a program that was read without refusal: to where an expression or a list ends, over an
 // expression's labels, over what a statement writes. What each contract says is of the tree that stands at a position; where none
 // stands, any answer is right, and none is unsafe.

@@ -1,3 +1,4 @@
+#![tactic(auto)]
 // The program that is delivered: it runs the program, policy and memory of the folder that it is started in, and prints the
 // answer. It reads of each file as much as decides the number (the model's `cut_printed`), so a longer one need not fit.
 ghost use Rattle.std.specs.Prelude.{◌≡◌, length, take};

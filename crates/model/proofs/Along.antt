@@ -91,10 +91,11 @@ module _ (S : Setting) where
   listed_stays h (run_again d e) q i w = absurd (rule S h)
 
   -- so what is known stays true
-  pub known_stays : {around : Around} {known : List Query} {context : Side → List Atom} {x : Stmt} {s m s₁ m₁ : List ℕ} {us : List Update}
-      → Stands S around known context x → RunsIn S (listed_of around) x s m (ends s₁ m₁) us → Known around known s → Known around known s₁
-  known_stays {around = outside} h d w = w
-  known_stays {around = inside _ _ _} h d w = λ q i. ((w q i).0, listed_stays h d q (w q i).0 (w q i).1)
+  pub known_stays : {around : Around} {known l : List Query} {context : Side → List Atom} {x : Stmt} {s m s₁ m₁ : List ℕ} {us : List Update}
+      → Stands S around known context x → RunsIn S l x s m (ends s₁ m₁) us → l ≡ listed_of around → Known around known s → Known around known s₁
+  known_stays {around = outside} h d e w = w
+  known_stays {around = inside _ _ _} {x} {s} {m} {s₁} {m₁} {us} h d e w =
+      let own = subst (λ (k : List Query). RunsIn S k x s m (ends s₁ m₁) us) e d in λ q i. ((w q i).0, listed_stays h own q (w q i).0 (w q i).1)
 
   pub update_shows : {rs : ℕ} (ms : List Mutation) {s : List ℕ} → Each (Mutates S.base rs) ms → Good S s → NoGain S.group (update_of s ms ∷ []) → ShowsNoMore S s (mutate_all s ms)
   update_shows ms {s} h g n =
@@ -102,7 +103,7 @@ module _ (S : Setting) where
       record { good = k; was_open = λ a o. hidden_stays_hidden (update_of s ms) g k (n (update_of s ms) (Memᴰ.head refl)) a o }
 
   -- F4 along a run
-  pub hidden_along : {around : Around} {known l : List Query} {context : Side → List Atom} {x : Stmt} {s m : List ℕ} {o : End} {us : List Update}
+  pub hidden_along : {l : List Query} {x : Stmt} {s m : List ℕ} {o : End} {us : List Update} {around : Around} {known : List Query} {context : Side → List Atom}
       → Stands S around known context x → RunsIn S l x s m o us → Good S s → NoGain S.group us → ShowsNoMore S s (policy_of o)
   hidden_along h run_skip g n = shows_refl g
   hidden_along h run_assign g n = shows_refl g

@@ -94,50 +94,61 @@ module _ (S : Setting) where
   assign_unseen {around = outside} h g w (by_transaction y) = absurd y
   assign_unseen {around = inside _ _ _} {x} h g w (by_transaction y) = y.variables_hidden x (omega (arith, h.fits.0, S.few)) (rule S h).0
 
-  pub confined : {around : Around} {known : List Query} {context : Side → List Atom} {x : Stmt} {s m : List ℕ} {o : End} {us : List Update}
-      → Stands S around known context x → RunsIn S (listed_of around) x s m o us → Good S s → Room S m → Known around known s → Unseen S around s (context S.side) → Calm S around s m o
-  confined h run_skip g r w y = alike_refl g r
-  confined h (run_assign {m = m} {x = x} {e = e}) g r w y = assign_hidden x (evaluate (version S.program) m e) g r (assign_unseen h g w y)
-  confined h run_empty g r w y = alike_refl g r
-  confined {around} h (run_block {o = o} d e) g r w y =
-      let a = confined (rule S h).0 d g r w y in
-      calm_after around o a (confined (rule S h).1 e a.near.good2 a.room2 (known_stays S (rule S h).0 d w) (unseen_near a.near y))
-  confined h (run_block_rolls d) g r w y = confined (rule S h).0 d g r w y
-  confined {context} h (run_then {e = e} t d) g r w y = confined (rule S h).0 d g r w (unseen_in (grows_expr S.program e context S.side) y)
-  confined {context} h (run_else {e = e} t d) g r w y = confined (rule S h).1 d g r w (unseen_in (grows_expr S.program e context S.side) y)
-  confined h (run_stop t) g r w y = alike_refl g r
-  confined {around} {context} h (run_more {e = e} {o = o} t d f) g r w y =
-      let a = confined (rule S h) d g r w (unseen_in (grows_expr S.program e context S.side) y) in
-      calm_after around o a (confined h f a.near.good2 a.room2 (known_stays S (rule S h) d w) (unseen_near a.near y))
-  confined {context} h (run_more_rolls {e = e} t d) g r w y = confined (rule S h) d g r w (unseen_in (grows_expr S.program e context S.side) y)
-  confined {around = outside} h (run_holds t d) g r w y = absurd (rule S h)
-  confined {around = inside _ _ _} {context} {s} h (run_holds {q = q} t d) g r w y = confined (rule S h).0.placed d g r ((rule S h).0.knows_true s t w) (unseen_in (grows_query q context S.side) y)
-  confined {around = outside} h (run_fails t d) g r w y = absurd (rule S h)
-  confined {around = inside _ _ _} {context} {s} h (run_fails {q = q} t d) g r w y = confined (rule S h).1.placed d g r ((rule S h).1.knows_true s t w) (unseen_in (grows_query q context S.side) y)
-  confined {around = outside} h (run_update t) g r w y = absurd (rule S h)
-  confined {around = inside _ _ _} h (run_update {ms = ms} t) g r w y =
+  -- (the list of queries stands apart from what surrounds the statement, and an equation ties them: so the run can be taken apart)
+  pub confined_from : {l : List Query} {x : Stmt} {s m : List ℕ} {o : End} {us : List Update} {around : Around} {known : List Query} {context : Side → List Atom}
+      → Stands S around known context x → RunsIn S l x s m o us → l ≡ listed_of around → Good S s → Room S m → Known around known s → Unseen S around s (context S.side) → Calm S around s m o
+  confined_from h run_skip i g r w y = alike_refl g r
+  confined_from h (run_assign {m = m} {x = x} {e = e}) i g r w y = assign_hidden x (evaluate (version S.program) m e) g r (assign_unseen h g w y)
+  confined_from h run_empty i g r w y = alike_refl g r
+  confined_from {around} h (run_block {o = o} d e) i g r w y =
+      let a = confined_from (rule S h).0 d i g r w y in
+      calm_after around o a (confined_from (rule S h).1 e i a.near.good2 a.room2 (known_stays S (rule S h).0 d i w) (unseen_near a.near y))
+  confined_from h (run_block_rolls d) i g r w y = confined_from (rule S h).0 d i g r w y
+  confined_from {context} h (run_then {e = e} t d) i g r w y = confined_from (rule S h).0 d i g r w (unseen_in (grows_expr S.program e context S.side) y)
+  confined_from {context} h (run_else {e = e} t d) i g r w y = confined_from (rule S h).1 d i g r w (unseen_in (grows_expr S.program e context S.side) y)
+  confined_from h (run_stop t) i g r w y = alike_refl g r
+  confined_from {around} {context} h (run_more {e = e} {o = o} t d f) i g r w y =
+      let a = confined_from (rule S h) d i g r w (unseen_in (grows_expr S.program e context S.side) y) in
+      calm_after around o a (confined_from h f i a.near.good2 a.room2 (known_stays S (rule S h) d i w) (unseen_near a.near y))
+  confined_from {context} h (run_more_rolls {e = e} t d) i g r w y = confined_from (rule S h) d i g r w (unseen_in (grows_expr S.program e context S.side) y)
+  confined_from {around = outside} h (run_holds t d) i g r w y = absurd (rule S h)
+  confined_from {s} {around = inside _ _ _} {context} h (run_holds {q = q} t d) i g r w y = confined_from (rule S h).0.placed d i g r ((rule S h).0.knows_true s t w) (unseen_in (grows_query q context S.side) y)
+  confined_from {around = outside} h (run_fails t d) i g r w y = absurd (rule S h)
+  confined_from {s} {around = inside _ _ _} {context} h (run_fails {q = q} t d) i g r w y = confined_from (rule S h).1.placed d i g r ((rule S h).1.knows_true s t w) (unseen_in (grows_query q context S.side) y)
+  confined_from {around = outside} h (run_update t) i g r w y = absurd (rule S h)
+  confined_from {around = inside _ _ _} h (run_update {ms = ms} t) i g r w y =
       let v = update_unseen (rule S h).1 g w y in
       record { near = hidden_update ms (rule S h).0 g v.rows_hidden; room1 = r; room2 = r; values = λ x l o. refl }
-  confined {around = outside} h (run_update_rolls t) g r w y = absurd (rule S h)
-  confined {around = inside _ _ _} h (run_update_rolls {ms = ms} t) g r w y =
+  confined_from {around = outside} h (run_update_rolls t) i g r w y = absurd (rule S h)
+  confined_from {around = inside _ _ _} h (run_update_rolls {ms = ms} t) i g r w y =
       let v = update_unseen (rule S h).1 g w y in
       (hidden_update ms (rule S h).0 g v.rows_hidden, v)
-  confined {around = outside} {s} h (run_transaction {qs = qs} {a = a} d) g r w y = confined (rule S h) d g r (nothing_known qs s w) (unseen_into (inside qs (assigned a) (mutated a)) y)
-  confined {around = inside _ _ _} h (run_transaction d) g r w y = absurd (rule S h)
-  confined {around = outside} {s} h (run_again {qs = qs} {a = a} d e) g r w y =
-      let c = confined (rule S h) d g r (nothing_known qs s w) (unseen_into (inside qs (assigned a) (mutated a)) y) in
-      alike_trans (record { near = c.0; room1 = r; room2 = r; values = λ x l o. refl }) (confined h e c.0.good2 r w (unseen_near c.0 y))
-  confined {around = inside _ _ _} h (run_again d e) g r w y = absurd (rule S h)
+  confined_from {s} {around = outside} h (run_transaction {qs = qs} {a = a} d) i g r w y = confined_from (rule S h) d refl g r (nothing_known qs s w) (unseen_into (inside qs (assigned a) (mutated a)) y)
+  confined_from {around = inside _ _ _} h (run_transaction d) i g r w y = absurd (rule S h)
+  confined_from {s} {around = outside} h (run_again {qs = qs} {a = a} d e) i g r w y =
+      let c = confined_from (rule S h) d refl g r (nothing_known qs s w) (unseen_into (inside qs (assigned a) (mutated a)) y) in
+      alike_trans (record { near = c.0; room1 = r; room2 = r; values = λ x l o. refl }) (confined_from h e i c.0.good2 r w (unseen_near c.0 y))
+  confined_from {around = inside _ _ _} h (run_again d e) i g r w y = absurd (rule S h)
+
+  pub confined : {around : Around} {known : List Query} {context : Side → List Atom} {x : Stmt} {s m : List ℕ} {o : End} {us : List Update}
+      → Stands S around known context x → RunsIn S (listed_of around) x s m o us → Good S s → Room S m → Known around known s → Unseen S around s (context S.side) → Calm S around s m o
+  confined h d g r w y = confined_from h d refl g r w y
 
   -- a loop whose body is out of sight
+
+  pub confined_loop_from : {l : List Query} {e : Expr} {x : Stmt} {s m : List ℕ} {o : End} {us : List Update} {around : Around} {known : List Query} {context : Side → List Atom}
+      → Stands S around known context x → RunsIn S l (while e x) s m o us → l ≡ listed_of around → Good S s → Room S m → Known around known s
+      → Unseen S around s (context S.side) → Calm S around s m o
+  confined_loop_from h (run_stop t) i g r w y = alike_refl g r
+  confined_loop_from {around} h (run_more {o = o} t d f) i g r w y =
+      let a = confined_from h d i g r w y in
+      calm_after around o a (confined_loop_from h f i a.near.good2 a.room2 (known_stays S h d i w) (unseen_near a.near y))
+  confined_loop_from h (run_more_rolls t d) i g r w y = confined_from h d i g r w y
+
   pub confined_loop : {around : Around} {known : List Query} {context : Side → List Atom} {e : Expr} {x : Stmt} {s m : List ℕ} {o : End} {us : List Update}
       → Stands S around known context x → RunsIn S (listed_of around) (while e x) s m o us → Good S s → Room S m → Known around known s
       → Unseen S around s (context S.side) → Calm S around s m o
-  confined_loop h (run_stop t) g r w y = alike_refl g r
-  confined_loop {around} h (run_more {o = o} t d f) g r w y =
-      let a = confined h d g r w y in
-      calm_after around o a (confined_loop h f a.near.good2 a.room2 (known_stays S h d w) (unseen_near a.near y))
-  confined_loop h (run_more_rolls t d) g r w y = confined h d g r w y
+  confined_loop h d g r w y = confined_loop_from h d refl g r w y
 
   -- a whole transaction that is hidden, with its restarts
   pub confined_transaction : {l qs known : List Query} {at start end : ℕ} {context : Side → List Atom} {x : Stmt} {s m s₁ m₁ : List ℕ} {us : List Update}

@@ -104,6 +104,7 @@ module _ (s : List ℕ) where
       go trans (inr x) (inr y) = inr (x.0, y.1)
 
   passes_asked : (known : List Query) (q : Query) → Memᴰ q known → Passes known q.first q.second
+  passes_asked [] q x' = elim x' [ ]
   passes_asked (k ∷ known) q (Memᴰ.head e) =
       rw e (through_passes k known k.first k.second (inr (passes_base known _ _ (base_refl k.first), passes_base known _ _ (base_refl k.second))))
   passes_asked (k ∷ known) q (Memᴰ.tail m) = through_passes k known q.first q.second (inl (passes_asked known q m))
@@ -133,6 +134,7 @@ module _ (s : List ℕ) where
 
   pub join_derivable : (known : List Query) (join : List Atom) (b : Atom) → join_at_most s known join b ≡ true → JoinAtMost s known join b
   unfolding join_at_most
+  join_derivable known [] b h a x' = elim x' [ ]
   join_derivable known (c ∷ join) b h a (Memᴰ.head e) = rw e (test_derivable known c b (both (at_most s known c b) _ h).0)
   join_derivable known (c ∷ join) b h a (Memᴰ.tail m) = join_derivable known join b (both (at_most s known c b) _ h).1 a m
 

@@ -14,7 +14,7 @@ use Rattle.model.specs.Policy.{principals, roles, Side, Accepted, SameFixed, Agr
 use Rattle.model.specs.Mutation.{mutate, Mutation}
 use Rattle.model.specs.Syntax.{Atom, Query, Expr, Stmt, skip, assign, empty, block, if, while, query, update, transaction}
 use Rattle.model.specs.Program.{got, version, read_program}
-use Rattle.model.specs.Flow.{roles_of, mutated, Around, outside, inside}
+use Rattle.model.specs.Flow.{roles_of, assigned, mutated, Around, outside, inside, under_expr, under_query}
 use Rattle.model.specs.Atoms.{holds}
 use Rattle.model.specs.Value.{evaluate, truth, set_value}
 use Rattle.model.specs.Run.{Update, Result, done, rolled, spent, after, charge, and_then, mutate_all, broken, loop, attempt, execute, Outcome, finish, run}
@@ -233,13 +233,13 @@ module _ (s : List ℕ) where
     fine_respected around known context (assign at x e) h = tt
     fine_respected around known context empty h = tt
     fine_respected around known context (block a b) h = let (i, j) = parts s p good h in (fine_respected around known context a i, fine_respected around known context b j)
-    fine_respected around known context (if e a b) h = let (i, j) = parts s p good h in (fine_respected around known _ a i, fine_respected around known _ b j)
-    fine_respected around known context (while e a) h = fine_respected around known _ a (parts s p good h)
+    fine_respected around known context (if e a b) h = let (i, j) = parts s p good h in (fine_respected around known (under_expr p e context) a i, fine_respected around known (under_expr p e context) b j)
+    fine_respected around known context (while e a) h = fine_respected around known (under_expr p e context) a (parts s p good h)
     fine_respected outside known context (query at q a b) h = absurd (parts s p good h)
-    fine_respected (inside listed xs rs) known context (query at q a b) h = let (i, j) = parts s p good h in (fine_respected (inside listed xs rs) _ _ a i.placed, fine_respected (inside listed xs rs) _ _ b j.placed)
+    fine_respected (inside listed xs rs) known context (query at q a b) h = let (i, j) = parts s p good h in (fine_respected (inside listed xs rs) i.knows (under_query q context) a i.placed, fine_respected (inside listed xs rs) j.knows (under_query q context) b j.placed)
     fine_respected outside known context (update at ms) h = absurd (parts s p good h)
     fine_respected (inside listed xs rs) known context (update at ms) h = mutate_all_goes fine_steps ms (λ k i a. mutate_fine ((parts s p good h).0 k i) a)
-    fine_respected outside known context (transaction at start end qs a) h = fine_respected _ _ _ a (parts s p good h)
+    fine_respected outside known context (transaction at start end qs a) h = fine_respected (inside qs (assigned a) (mutated a)) known context a (parts s p good h)
     fine_respected (inside listed xs rs) known context (transaction at start end qs a) h = absurd (parts s p good h)
 
 -- the end policy of a finished run is an accepted one

@@ -1,3 +1,4 @@
+#![tactic(auto)]
 // What a program file is made of: its layout, the codes, atoms, lists and rows of skips that stand in it, and the word in which
 // readers answer.
 pub mod answer;

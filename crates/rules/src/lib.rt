@@ -1,3 +1,4 @@
+#![tactic(auto)]
 // The flow rules of a statement that has no other in it, and the words of a transaction that is entered.
 pub mod enter;
 pub mod simple;

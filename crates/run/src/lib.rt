@@ -1,2 +1,3 @@
+#![tactic(auto)]
 // The run: one call that takes any policy, program, memory and fuel.
 pub mod run;

@@ -1,3 +1,4 @@
+#![tactic(auto)]
 // The public face: the calls of document 01 for C and Rust, declared in include/rx.h. Each takes every input.
 // Rattle callers have policy::check::policy_number, meaning::least::meaning_of, verdict::verdict::program_verdict,
 // run::run::run and transaction_body below, of which these are the exports. What no export can say stands last: that two runs

@@ -1,7 +1,0 @@
-use Rattle.policy.proofs.RowLaws.{fields}
-use borrow.Author.Rules.{rules}
-use Rattle.policy.proofs.rows.takes_of.Statement.{statement}
-use Rattle.policy.proofs.rows.takes_of.Tie as tie
-
-pub takes-of-spec : {M : Type 1} → statement M
-takes-of-spec = tie.close (tie.spec (λ c κs. search rules) (λ c. search rules) (λ c κs. search rules) (λ c. search (rules, fields)))

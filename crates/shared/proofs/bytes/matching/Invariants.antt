@@ -1,0 +1,12 @@
+use Rattle.std.proofs.Common.{length, ◌-◌, ◌≡◌, ◌+◌, ◌%◌, ◌<◌, ◌≤◌, ℕ, ◌*◌}
+use Rattle.model.specs.Bytes.{byte, word, put, starts_with}
+use Rattle.shared.specs.Marks.{matching}
+use lib.ListN.{drop}
+use Rattle.shared.proofs.bytes.matching.Given as goal
+
+abbrev pub invariant-loop-i : goal.invariant-loop-i
+invariant-loop-i l = (l.i ≤ length l.mark) × (l.i + matching (drop l.i l.s) (drop l.i l.mark) ≡ matching l.s l.mark)
+
+-- proposed from the loop's first test
+abbrev pub decreases-loop-i : goal.decreases-loop-i
+decreases-loop-i l = length l.mark - l.i
