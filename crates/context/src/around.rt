@@ -43,7 +43,7 @@ pub const WORDS: usize = 13;
 
 // A join of labels on one side: the roles in it, and the roles whose viewers (on the trust side, trusters) are in it.
 // Everyone adds nothing to a join.
-#[derive(Drop)]
+#[derive(Clone, Copy)]
 pub struct Join {
     pub roles: u64,
     pub watchers: u64,

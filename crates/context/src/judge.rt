@@ -22,7 +22,7 @@ const ALL: u64 = 0xffffffffffffffff;
 
 // What is written: a variable, which is held to its label, or a role, which is held to its viewers (on the trust side,
 // trusters).
-#[derive(Drop)]
+#[derive(Clone, Copy)]
 pub enum Written {
     Variable,
     Role,

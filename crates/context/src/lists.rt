@@ -52,7 +52,7 @@ pub fn is_listed(program: &[u8], n: u64, at: usize, other: usize) -> bool
 }
 
 // The atoms of a query, or none where one of its bytes is no atom.
-#[derive(Drop)]
+#[derive(Clone, Copy)]
 pub enum QueryOf {
     Is(Atom, Atom),
     No,

@@ -14,7 +14,7 @@ use turn::memory;
 use update::change;
 
 // What a run gives: document 01's number, and the units.
-#[derive(Drop)]
+#[derive(Clone, Copy)]
 pub struct Answer {
     pub number: u32,
     pub units: u32,

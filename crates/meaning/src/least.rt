@@ -9,14 +9,14 @@ use policy::{check, rows};
 use shared::{bytes, limit, number, sets};
 
 // What asking for a meaning gives: document 01's number, and the meaning's bits, 0 at any refusal.
-#[derive(Drop)]
+#[derive(Clone, Copy)]
 pub struct Meaning {
     pub number: u32,
     pub bits: u32,
 }
 
 // How far the search from a role has come: the roles that it has seen, those of them that it is done with, and their bits.
-#[derive(Drop)]
+#[derive(Clone, Copy)]
 struct Search {
     seen: u64,
     done: u64,

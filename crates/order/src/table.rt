@@ -9,7 +9,7 @@ use program::codes::Atom;
 use shared::{bytes, limit, sets};
 
 // A set of atoms, without everyone.
-#[derive(Drop)]
+#[derive(Clone, Copy)]
 pub struct Row {
     pub roles: u64,
     pub viewers: u64,

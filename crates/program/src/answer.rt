@@ -6,7 +6,7 @@
 ghost use Rattle.std.specs.Prelude.{◌≡◌, ◌/◌, ◌%◌};
 ghost use Rattle.program.specs.Answer.{place_limit, refusal, told, reached_by};
 
-#[derive(Drop)]
+#[derive(Clone, Copy)]
 pub enum Answer {
     At(usize),
     Refused(u32, usize),

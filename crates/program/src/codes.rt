@@ -4,7 +4,7 @@ ghost use Rattle.std.specs.Prelude.{◌≡◌};
 ghost use Rattle.program.specs.Codes.{atom_of, role_below, kind_of, operand_bound, expression_of, statement_of};
 
 // 00–3F a role; 40–7F the viewers of a role; 80–BF the trusters of a role; FF everyone.
-#[derive(Drop)]
+#[derive(Clone, Copy)]
 pub enum Atom {
     Role(u8),
     Viewers(u8),
@@ -12,7 +12,7 @@ pub enum Atom {
     Everyone,
 }
 
-#[derive(Drop)]
+#[derive(Clone, Copy)]
 pub enum AtomOf {
     Is(Atom),
     No,
@@ -43,7 +43,7 @@ pub fn role_below(atom: Atom, roles: u8) -> bool
 }
 
 // 00 add and 01 delete a member, 02 add and 03 delete a taken role.
-#[derive(Drop)]
+#[derive(Clone, Copy)]
 pub enum Kind {
     AddMember,
     DeleteMember,
@@ -51,7 +51,7 @@ pub enum Kind {
     DeleteTaken,
 }
 
-#[derive(Drop)]
+#[derive(Clone, Copy)]
 pub enum KindOf {
     Is(Kind),
     No,
@@ -81,7 +81,7 @@ pub fn operand_bound(kind: Kind, principals: u8, roles: u8) -> u8
     }
 }
 
-#[derive(Drop)]
+#[derive(Clone, Copy)]
 pub enum Operator {
     Sum,
     Difference,
@@ -92,14 +92,14 @@ pub enum Operator {
 }
 
 // 00 a constant, 01 a variable, 02 to 07 an operator of two expressions.
-#[derive(Drop)]
+#[derive(Clone, Copy)]
 pub enum Expression {
     Constant,
     Variable,
     Binary(Operator),
 }
 
-#[derive(Drop)]
+#[derive(Clone, Copy)]
 pub enum ExpressionOf {
     Is(Expression),
     No,
@@ -122,7 +122,7 @@ pub fn expression_of(b: u8) -> ExpressionOf
 }
 
 // 00 skip, 01 assign, 02 block, 03 if, 04 while, 05 query, 06 update, 07 transaction.
-#[derive(Drop)]
+#[derive(Clone, Copy)]
 pub enum Statement {
     Skip,
     Assign,
@@ -134,7 +134,7 @@ pub enum Statement {
     Transaction,
 }
 
-#[derive(Drop)]
+#[derive(Clone, Copy)]
 pub enum StatementOf {
     Is(Statement),
     No,

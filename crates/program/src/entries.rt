@@ -10,7 +10,7 @@ use shared::bytes;
 const MUTATION_BYTES: usize = 3;
 
 // What a list holds: the labels of variables, the queries of a transaction, the mutations of an update.
-#[derive(Drop)]
+#[derive(Clone, Copy)]
 pub enum Entry {
     Label,
     Query,

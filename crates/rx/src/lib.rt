@@ -119,7 +119,7 @@ pub extern "C" fn rx_run(
 }
 
 // What two runs of one program give.
-#[derive(Drop)]
+#[derive(Clone, Copy)]
 pub struct Answers {
     pub first: Answer,
     pub second: Answer,

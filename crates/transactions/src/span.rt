@@ -9,7 +9,7 @@ use program::layout;
 use shared::limit;
 
 // Both are 0 where there is no such transaction.
-#[derive(Drop)]
+#[derive(Clone, Copy)]
 pub struct Span {
     pub start: usize,
     pub size: usize,

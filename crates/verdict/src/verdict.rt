@@ -16,7 +16,7 @@ use program::{answer, layout};
 use shared::{limit, number};
 
 // Nothing against the program; or document 01's number and the place in the program that shows it, 0 for the policy's.
-#[derive(Drop)]
+#[derive(Clone, Copy)]
 pub enum Verdict {
     Fine,
     Refused(u32, usize),

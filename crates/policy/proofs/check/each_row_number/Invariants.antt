@@ -1,0 +1,14 @@
+use Rattle.std.proofs.Common.{◌-◌, ◌≡◌, true, ◌^◌, ◌<◌, ℕ, ◌+◌, ◌*◌, ◌≤◌, length}
+use Rattle.model.specs.Number.{first_below}
+use Rattle.model.specs.Sets.{has}
+use Rattle.model.specs.Policy.{roles, HasRow, takes, AcceptedHead, head_number, principal_number, owner_number, row_number, taken_number, takes_number, grants_number, policy_number}
+use Rattle.policy.specs.Pairs.{Seen, SeenAfter}
+use Rattle.policy.specs.Takable.{Takable}
+use Rattle.policy.proofs.check.each_row_number.Given as goal
+
+abbrev pub invariant-loop-i : goal.invariant-loop-i
+invariant-loop-i l = (l.i ≤ l.n) × (first_below (row_number l.policy) l.i ≡ 0) × Seen l.policy l.seen l.i × (length l.seen ≡ length l.initial.seen)
+
+-- proposed from the loop's first test
+abbrev pub decreases-loop-i : goal.decreases-loop-i
+decreases-loop-i l = l.n - l.i

@@ -1,0 +1,33 @@
+use Rattle.std.proofs.Common.{rules, ◌≡◌, true, ◌^◌, ◌<◌, ℕ, ◌+◌, ◌-◌, ◌*◌, ◌≤◌, length, ◌/◌, ◌%◌, Bool, false, nat_eq, nat_lt, List, [], ◌∷◌, ◌++◌, slice_index_or, slice_set, bit_and, bit_or, Fits, w8, w32, w64, Bor, MutBor}
+use Rattle.model.specs.Number.{first_below}
+use Rattle.model.specs.Sets.{has}
+use Rattle.model.specs.Policy.{roles, HasRow, takes, AcceptedHead, head_number, principal_number, owner_number, row_number, taken_number, takes_number, grants_number, policy_number}
+use Rattle.policy.specs.Pairs.{Seen, SeenAfter}
+use Rattle.policy.specs.Takable.{Takable}
+use Rattle.policy.proofs.CheckLaws.{grants_laws}
+use Rattle.policy.proofs.RowLaws.{insides}
+use Rattle.policy.proofs.check.grants_number.Goals as goal
+
+-- src/check.rt:166:19
+pub members_of-members-requires : goal.members_of-members-requires
+members_of-members-requires c = search (rules, grants_laws, insides)
+
+-- src/check.rt:167:31
+pub viewers_of-requires : goal.viewers_of-requires
+viewers_of-requires c = search (rules, grants_laws, insides)
+
+-- src/check.rt:168:9
+pub returns-then-not-subset : goal.returns-then-not-subset
+returns-then-not-subset c = search (rules, grants_laws, insides)
+
+-- src/check.rt:170:31
+pub trusters_of-requires : goal.trusters_of-requires
+trusters_of-requires c = search (rules, grants_laws, insides)
+
+-- src/check.rt:171:9
+pub returns-then-not-subset-2 : goal.returns-then-not-subset-2
+returns-then-not-subset-2 c = search (rules, grants_laws, insides)
+
+-- src/check.rt:162:1
+pub returns : goal.returns
+returns c = search (rules, grants_laws, insides)

@@ -1,0 +1,30 @@
+use Rattle.std.proofs.Common.{rules, ◌≡◌, true, ◌^◌, ◌<◌, ℕ, ◌+◌, ◌-◌, ◌*◌, ◌≤◌, length, ◌/◌, ◌%◌, Bool, false, nat_eq, nat_lt, List, [], ◌∷◌, ◌++◌, slice_index_or, slice_set, bit_and, bit_or, Fits, w8, w32, w64, Bor, MutBor}
+use Rattle.model.specs.Number.{first_below}
+use Rattle.model.specs.Sets.{has}
+use Rattle.model.specs.Policy.{roles, HasRow, takes, AcceptedHead, head_number, principal_number, owner_number, row_number, taken_number, takes_number, grants_number, policy_number}
+use Rattle.policy.specs.Pairs.{Seen, SeenAfter}
+use Rattle.policy.specs.Takable.{Takable}
+use Rattle.model.proofs.Rows.{row_inside}
+use Rattle.policy.proofs.CheckLaws.{row_laws}
+use Rattle.policy.proofs.PairLaws.{seen_laws}
+use Rattle.policy.proofs.check.row_number.Goals as goal
+
+-- src/check.rt:78:9
+pub principal_number-principal-requires : goal.principal_number-principal-requires
+principal_number-principal-requires c = first_of (search (rules, row_laws, seen_laws, row_inside), search (rules, row_laws, seen_laws))
+
+-- src/check.rt:82:9
+pub owner_number-owner-requires : goal.owner_number-owner-requires
+owner_number-owner-requires c = first_of (search (rules, row_laws, seen_laws, row_inside), search (rules, row_laws, seen_laws))
+
+-- src/check.rt:86:5
+pub pairs_number-requires : goal.pairs_number-requires
+pairs_number-requires c = first_of (search (rules, row_laws, seen_laws, row_inside), search (rules, row_laws, seen_laws))
+
+-- src/check.rt:73:1
+pub returns-clause-number : goal.returns-clause-number
+returns-clause-number c = first_of (search (rules, row_laws, seen_laws, row_inside), search (rules, row_laws, seen_laws))
+
+-- src/check.rt:73:1
+pub returns-clause-now_seen : goal.returns-clause-now_seen
+returns-clause-now_seen c = first_of (search (rules, row_laws, seen_laws, row_inside), search (rules, row_laws, seen_laws))

@@ -1,0 +1,35 @@
+use Rattle.std.proofs.Common.{rules, ◌≡◌, ◌+◌, ◌≤◌, length, ℕ, ◌-◌, ◌*◌, ◌<◌, ◌/◌, ◌%◌, Bool, true, false, nat_eq, nat_lt, List, [], ◌∷◌, ◌++◌, slice_index_or, slice_set, bit_and, bit_or, Fits, w8, w32, w64, Bor, MutBor}
+use Rattle.model.specs.Limits.{role_limit}
+use Rattle.model.specs.Program.{read_below, read_atom, read_label, read_query, read_mutation}
+use Rattle.program.specs.Answer.{told, Within, end_of}
+use Rattle.program.specs.Entries.{FindsMutation}
+use Rattle.program.proofs.AtomLaws.{labels}
+use Rattle.program.proofs.atoms.read_label.Goals as goal
+
+-- src/atoms.rt:50:9
+pub returns-then-program-at : goal.returns-then-program-at
+returns-then-program-at c = search (rules, labels)
+
+-- src/atoms.rt:53:9
+pub returns-in_default : goal.returns-in_default
+returns-in_default c = search (rules, labels)
+
+-- src/atoms.rt:58:17
+pub returns-then-j-roles : goal.returns-then-j-roles
+returns-then-j-roles c = search (rules, labels)
+
+-- src/atoms.rt:44:1
+pub returns-else-j-roles : goal.returns-else-j-roles
+returns-else-j-roles c = search (rules, labels)
+
+-- src/atoms.rt:44:1
+pub returns-in-Viewers : goal.returns-in-Viewers
+returns-in-Viewers c = search (rules, labels)
+
+-- src/atoms.rt:44:1
+pub returns-in-Trusters : goal.returns-in-Trusters
+returns-in-Trusters c = search (rules, labels)
+
+-- src/atoms.rt:44:1
+pub returns-in-Everyone : goal.returns-in-Everyone
+returns-in-Everyone c = search (rules, labels)

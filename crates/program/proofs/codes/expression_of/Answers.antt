@@ -1,0 +1,40 @@
+use Rattle.std.proofs.Common.{rules, ◌≡◌, ℕ, ◌+◌, ◌-◌, ◌*◌, ◌<◌, ◌≤◌, length, ◌/◌, ◌%◌, Bool, true, false, nat_eq, nat_lt, List, [], ◌∷◌, ◌++◌, slice_index_or, slice_set, bit_and, bit_or, Fits, w8, w32, w64, Bor, MutBor}
+use Rattle.program.specs.Codes.{atom_of, role_below, kind_of, operand_bound, expression_of, statement_of}
+use Rattle.program.proofs.CodeLaws.{expressions}
+use Rattle.program.proofs.codes.expression_of.Goals as goal
+
+-- src/codes.rt:108:1
+pub returns-in-0 : goal.returns-in-0
+returns-in-0 c = search (rules, expressions)
+
+-- src/codes.rt:108:1
+pub returns-in-1 : goal.returns-in-1
+returns-in-1 c = search (rules, expressions)
+
+-- src/codes.rt:108:1
+pub returns-in-2 : goal.returns-in-2
+returns-in-2 c = search (rules, expressions)
+
+-- src/codes.rt:108:1
+pub returns-in-3 : goal.returns-in-3
+returns-in-3 c = search (rules, expressions)
+
+-- src/codes.rt:108:1
+pub returns-in-4 : goal.returns-in-4
+returns-in-4 c = search (rules, expressions)
+
+-- src/codes.rt:108:1
+pub returns-in-5 : goal.returns-in-5
+returns-in-5 c = search (rules, expressions)
+
+-- src/codes.rt:108:1
+pub returns-in-6 : goal.returns-in-6
+returns-in-6 c = search (rules, expressions)
+
+-- src/codes.rt:108:1
+pub returns-in-7 : goal.returns-in-7
+returns-in-7 c = search (rules, expressions)
+
+-- src/codes.rt:108:1
+pub returns-in_default : goal.returns-in_default
+returns-in_default c = search (rules, expressions)

@@ -1,0 +1,13 @@
+use Rattle.std.proofs.Common.{◌≡◌, ℕ, ◌+◌, ◌-◌, ◌*◌, ◌<◌, ◌≤◌, length}
+use Rattle.model.specs.Program.{read_many, read_mutation}
+use Rattle.program.specs.Answer.{told, Within, end_of}
+use Rattle.program.specs.Entries.{Room, read_entry, FindsMutations}
+use Rattle.program.proofs.EntryLaws.{Finding}
+use Rattle.program.proofs.entries.are_mutations.Given as goal
+
+abbrev pub invariant-loop-left : goal.invariant-loop-left
+invariant-loop-left l = (Finding l.program l.principals l.roles l.n l.at l.left l.here) × (l.here + 3 * l.left ≤ length l.program)
+
+-- proposed from the loop's first test
+abbrev pub decreases-loop-left : goal.decreases-loop-left
+decreases-loop-left l = l.left

@@ -1,0 +1,18 @@
+use Rattle.std.proofs.Common.{rules, ◌≡◌, ℕ, ◌+◌, ◌-◌, ◌*◌, ◌<◌, ◌≤◌, length, ◌/◌, ◌%◌, Bool, true, false, nat_eq, nat_lt, List, [], ◌∷◌, ◌++◌, slice_index_or, slice_set, bit_and, bit_or, Fits, w8, w32, w64, Bor, MutBor}
+use Rattle.model.specs.Program.{read_many, read_mutation}
+use Rattle.program.specs.Answer.{told, Within, end_of}
+use Rattle.program.specs.Entries.{Room, read_entry, FindsMutations}
+use Rattle.program.proofs.AnswerLaws.{many}
+use Rattle.program.proofs.entries.read_entries.Goals as goal
+
+-- src/entries.rt:51:13
+pub returns-then-one-ge-REFUSED : goal.returns-then-one-ge-REFUSED
+returns-then-one-ge-REFUSED c = search (rules, many)
+
+-- src/entries.rt:48:5
+pub loop-left-preserved : goal.loop-left-preserved
+loop-left-preserved c = search (rules, many)
+
+-- src/entries.rt:34:1
+pub returns : goal.returns
+returns c = search (rules, many)

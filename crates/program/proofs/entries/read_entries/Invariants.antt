@@ -1,0 +1,13 @@
+use Rattle.std.proofs.Common.{◌≡◌, ℕ, ◌+◌, ◌-◌, ◌*◌, ◌<◌, ◌≤◌, length}
+use Rattle.model.specs.Program.{read_many, read_mutation}
+use Rattle.program.specs.Answer.{told, Within, end_of}
+use Rattle.program.specs.Entries.{Room, read_entry, FindsMutations}
+use Rattle.program.specs.Answer.{place_limit}
+use Rattle.program.proofs.entries.read_entries.Given as goal
+
+abbrev pub invariant-loop-left : goal.invariant-loop-left
+invariant-loop-left l = (end_of (read_many (read_entry l.program l.principals l.roles l.entry) l.left l.next) ≡ end_of (read_many (read_entry l.program l.principals l.roles l.entry) l.n l.at)) × (l.next < place_limit)
+
+-- proposed from the loop's first test
+abbrev pub decreases-loop-left : goal.decreases-loop-left
+decreases-loop-left l = l.left
