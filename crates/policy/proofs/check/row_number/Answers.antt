@@ -28,3 +28,19 @@ returns-clause-number c = first_of (search (rules, row_laws, seen_laws, row_insi
 -- src/check.rt:73:1
 pub returns-clause-now_seen : goal.returns-clause-now_seen
 returns-clause-now_seen c = first_of (search (rules, row_laws, seen_laws, row_inside), search (rules, row_laws, seen_laws))
+
+-- src/check.rt:80:9
+pub returns-then-principal-ne-ACCEPTED-clause-number : goal.returns-then-principal-ne-ACCEPTED-clause-number
+returns-then-principal-ne-ACCEPTED-clause-number c = first_of (search (rules, row_laws, seen_laws, row_inside), search (rules, row_laws, seen_laws))
+
+-- src/check.rt:80:9
+pub returns-then-principal-ne-ACCEPTED-clause-now_seen : goal.returns-then-principal-ne-ACCEPTED-clause-now_seen
+returns-then-principal-ne-ACCEPTED-clause-now_seen c = first_of (search (rules, row_laws, seen_laws, row_inside), search (rules, row_laws, seen_laws))
+
+-- src/check.rt:84:9
+pub returns-then-owner-ne-ACCEPTED-clause-number : goal.returns-then-owner-ne-ACCEPTED-clause-number
+returns-then-owner-ne-ACCEPTED-clause-number c = first_of (search (rules, row_laws, seen_laws, row_inside), search (rules, row_laws, seen_laws))
+
+-- src/check.rt:84:9
+pub returns-then-owner-ne-ACCEPTED-clause-now_seen : goal.returns-then-owner-ne-ACCEPTED-clause-now_seen
+returns-then-owner-ne-ACCEPTED-clause-now_seen c = first_of (search (rules, row_laws, seen_laws, row_inside), search (rules, row_laws, seen_laws))
