@@ -1,0 +1,12 @@
+use Rattle.std.proofs.Common.{◌-◌, ◌≡◌, length, ℕ, ◌+◌, ◌*◌, ◌<◌, ◌≤◌}
+use Rattle.shared.specs.Words.{single}
+use Rattle.gathered.specs.Labels.{variable_added, AllAdded, LabelsAt}
+use Rattle.gathered.proofs.LabelLaws.{Gathered}
+use Rattle.gathered.proofs.labels.all_labels.Given as goal
+
+abbrev pub invariant-loop-x : goal.invariant-loop-x
+invariant-loop-x l = Gathered l.program l.initial.labels l.variables l.x l.labels
+
+-- proposed from the loop's first test
+abbrev pub decreases-loop-x : goal.decreases-loop-x
+decreases-loop-x l = l.variables - l.x

@@ -1,0 +1,26 @@
+use Rattle.std.proofs.Common.{rules, ◌≡◌, ◌≤◌, eqb, ℕ, ◌+◌, ◌-◌, ◌*◌, ◌<◌, length, ◌/◌, ◌%◌, Bool, true, false, nat_lt, List, [], ◌∷◌, ◌++◌, slice_index_or, slice_set, bit_and, bit_or, Fits, w8, w32, w64, Bor, MutBor}
+use Rattle.model.specs.Bytes.{byte}
+use Rattle.program.specs.Codes.{statement_of, expression_of, atom_of}
+use Rattle.gathered.specs.Positions.{ahead, after_list, ExprEnds}
+use Rattle.gathered.proofs.PositionLaws.{ends}
+use Rattle.gathered.proofs.positions.+after_expr.Goals as goal
+
+-- src/positions.rt:71:9
+pub returns-then-depth-eq0 : goal.returns-then-depth-eq0
+returns-then-depth-eq0 t c = search (rules, ends)
+
+-- src/positions.rt:74:9
+pub returns-in_default : goal.returns-in_default
+returns-in_default t c = search (rules, ends)
+
+-- src/positions.rt:67:1
+pub returns-in-Constant : goal.returns-in-Constant
+returns-in-Constant t c = search (rules, ends)
+
+-- src/positions.rt:67:1
+pub returns-in-Variable : goal.returns-in-Variable
+returns-in-Variable t c = search (rules, ends)
+
+-- src/positions.rt:67:1
+pub returns-in-Binary : goal.returns-in-Binary
+returns-in-Binary t c = search (rules, ends)

@@ -1,0 +1,27 @@
+use Rattle.std.proofs.Common.{◌≡◌, ◌+◌, ◌%◌, ◌≤◌, length, ℕ, ◌-◌, ◌*◌, ◌<◌}
+use Rattle.model.specs.Bytes.{byte}
+use Rattle.model.specs.Sets.{with}
+use Rattle.gathered.specs.Writes.{AssignWrites, UpdateWrites, WritesAt, PairWrites, BlockWrites}
+use Rattle.gathered.proofs.writes.+writing.Given as goal
+
+abbrev pub decreases-block_writes : goal.decreases-block_writes
+decreases-block_writes l = 3 * l.depth + 2
+
+abbrev pub decreases-branch_writes : goal.decreases-branch_writes
+decreases-branch_writes l = 3 * l.depth + 1
+
+abbrev pub decreases-pair_writes : goal.decreases-pair_writes
+decreases-pair_writes l = 3 * l.depth + 2
+
+abbrev pub decreases-part_writes : goal.decreases-part_writes
+decreases-part_writes l = 3 * l.depth + 1
+
+abbrev pub decreases-stmt_writes : goal.decreases-stmt_writes
+decreases-stmt_writes l = 3 * l.depth
+
+abbrev pub invariant-block_writes-loop-statements : goal.invariant-block_writes-loop-statements
+invariant-block_writes-loop-statements l = ?
+
+-- proposed from the loop's first test
+abbrev pub decreases-block_writes-loop-statements : goal.decreases-block_writes-loop-statements
+decreases-block_writes-loop-statements l = l.statements

@@ -1,0 +1,13 @@
+use Rattle.std.proofs.Common.{◌≡◌, ◌+◌, ◌%◌, ◌≤◌, length, ℕ, ◌-◌, ◌*◌, ◌<◌}
+use Rattle.model.specs.Bytes.{byte}
+use Rattle.model.specs.Sets.{with}
+use Rattle.gathered.specs.Writes.{AssignWrites, UpdateWrites, WritesAt, PairWrites, BlockWrites}
+use Rattle.gathered.proofs.WriteLaws.{Mutating}
+use Rattle.gathered.proofs.writes.update_writes.Given as goal
+
+abbrev pub invariant-loop-mutations : goal.invariant-loop-mutations
+invariant-loop-mutations l = (Mutating l.program l.at l.mutations l.next l.mutated) × (l.next + 3 * l.mutations ≤ length l.program)
+
+-- proposed from the loop's first test
+abbrev pub decreases-loop-mutations : goal.decreases-loop-mutations
+decreases-loop-mutations l = l.mutations

@@ -1,0 +1,14 @@
+use Rattle.std.proofs.Common.{◌-◌, ◌≡◌, ◌+◌, ◌^◌, ◌<◌, length, ℕ, ◌*◌, ◌≤◌}
+use Rattle.model.specs.Policy.{roles, members, takes, Accepted}
+use Rattle.model.specs.Meaning.{meanings, meaning, answer, meaning_of}
+use Rattle.shared.specs.Words.{United}
+use Rattle.meaning.specs.Reach.{Found, Searches}
+use Rattle.meaning.specs.Reach.{Reached}
+use Rattle.meaning.proofs.least.least_set.Given as goal
+
+abbrev pub invariant-loop-done : goal.invariant-loop-done
+invariant-loop-done l = Reached l.policy l.role l.seen l.done l.bits
+
+-- proposed from the loop's first test
+abbrev pub decreases-loop-done : goal.decreases-loop-done
+decreases-loop-done l = 2 ^ roles l.policy - l.done

@@ -1,0 +1,21 @@
+use Rattle.std.proofs.Common.{rules, ◌≡◌, ◌+◌, ◌^◌, ◌<◌, length, ℕ, ◌-◌, ◌*◌, ◌≤◌, ◌/◌, ◌%◌, Bool, true, false, nat_eq, nat_lt, List, [], ◌∷◌, ◌++◌, slice_index_or, slice_set, bit_and, bit_or, Fits, w8, w32, w64, Bor, MutBor}
+use Rattle.model.specs.Policy.{roles, members, takes, Accepted}
+use Rattle.model.specs.Meaning.{meanings, meaning, answer, meaning_of}
+use Rattle.shared.specs.Words.{United}
+use Rattle.meaning.specs.Reach.{Found, Searches}
+use Rattle.meaning.proofs.ReachLaws.{told_laws, up_laws}
+use lib.ListN.{length-set}
+use native.Mathlib.Omega.{arith}
+use Rattle.meaning.proofs.least.look_on.Goals as goal
+
+-- src/least.rt:95:5
+pub loop-i-init : goal.loop-i-init
+loop-i-init c = search (rules, up_laws, told_laws)
+
+-- src/least.rt:95:5
+pub loop-i-preserved : goal.loop-i-preserved
+loop-i-preserved c = (search (rules, up_laws), (simp length-set (omega arith), search (rules, told_laws)))
+
+-- src/least.rt:90:1
+pub returns : goal.returns
+returns c = search (rules, up_laws, told_laws)

@@ -1,0 +1,14 @@
+use Rattle.std.proofs.Common.{◌≡◌, ◌+◌, ◌^◌, ◌<◌, length, ℕ, ◌-◌, ◌*◌, ◌≤◌}
+use Rattle.model.specs.Policy.{roles, members, takes, Accepted}
+use Rattle.model.specs.Meaning.{meanings, meaning, answer, meaning_of}
+use Rattle.shared.specs.Words.{United}
+use Rattle.meaning.specs.Reach.{Found, Searches}
+use lib.Bits.{bit_xor}
+use Rattle.meaning.proofs.least.with_all.Given as goal
+
+abbrev pub invariant-loop-left : goal.invariant-loop-left
+invariant-loop-left l = Found l.policy l.i l.reached l.passed l.bits × (l.left ≡ bit_xor l.reached l.passed)
+
+-- proposed from the loop's first test
+abbrev pub decreases-loop-left : goal.decreases-loop-left
+decreases-loop-left l = 2 ^ roles l.policy - l.passed

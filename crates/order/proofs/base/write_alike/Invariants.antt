@@ -1,0 +1,14 @@
+use Rattle.std.proofs.Common.{◌-◌, ◌≡◌, [], ◌+◌, ◌^◌, ◌<◌, ◌≤◌, length, ℕ, ◌*◌}
+use Rattle.model.specs.Limits.{role_limit}
+use Rattle.model.specs.Policy.{Accepted, roles, HasRow, watchers}
+use Rattle.program.specs.Layout.{side_of}
+use Rattle.order.specs.Table.{table_words, union, with_role, Knows}
+use Rattle.order.specs.Base.{Loaded, WordsOf, holders, fixed_row, RoleRows, RowsOf, FindsAlike, Filled}
+use Rattle.order.proofs.base.write_alike.Given as goal
+
+abbrev pub invariant-loop-j : goal.invariant-loop-j
+invariant-loop-j l = (l.first < l.j) × (l.j ≤ l.count) × Filled l.viewers l.trusters l.count (l.first + 1) l.j l.initial.table l.table
+
+-- proposed from the loop's first test
+abbrev pub decreases-loop-j : goal.decreases-loop-j
+decreases-loop-j l = l.count - l.j

@@ -1,0 +1,8 @@
+use Rattle.std.proofs.Common.{◌≡◌, ℕ, ◌+◌, ◌-◌, ◌*◌, ◌<◌, ◌≤◌, length}
+use Rattle.model.specs.Program.{read_expr}
+use Rattle.program.specs.Answer.{told, Within, end_of}
+use Rattle.parser.proofs.expressions.+read_expr.Given as goal
+
+-- proposed from what the function passes where it calls itself
+abbrev pub decreases-read_expr : goal.decreases-read_expr
+decreases-read_expr l = l.depth

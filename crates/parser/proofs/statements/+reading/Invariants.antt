@@ -1,0 +1,35 @@
+use Rattle.std.proofs.Common.{◌≡◌, ◌-◌, ℕ, ◌+◌, ◌*◌, ◌<◌, ◌≤◌, length}
+use Rattle.model.specs.Program.{read_stmt, block_at, if_at, while_at, query_at, transaction_at}
+use Rattle.program.specs.Answer.{told, Within, end_of, read_assign, read_update, FindsCode}
+use Rattle.parser.proofs.statements.+reading.Given as goal
+
+abbrev pub decreases-read_block : goal.decreases-read_block
+decreases-read_block l = 4 * l.depth + 3
+
+abbrev pub decreases-read_branch : goal.decreases-read_branch
+decreases-read_branch l = 4 * l.depth + 2
+
+abbrev pub decreases-read_if : goal.decreases-read_if
+decreases-read_if l = 4 * l.depth + 3
+
+abbrev pub decreases-read_part : goal.decreases-read_part
+decreases-read_part l = 4 * l.depth + 1
+
+abbrev pub decreases-read_query : goal.decreases-read_query
+decreases-read_query l = 4 * l.depth + 3
+
+abbrev pub decreases-read_stmt : goal.decreases-read_stmt
+decreases-read_stmt l = 4 * l.depth
+
+abbrev pub decreases-read_transaction : goal.decreases-read_transaction
+decreases-read_transaction l = 4 * l.depth + 3
+
+abbrev pub decreases-read_while : goal.decreases-read_while
+decreases-read_while l = 4 * l.depth + 3
+
+abbrev pub invariant-read_block-loop-left : goal.invariant-read_block-loop-left
+invariant-read_block-loop-left l = ?
+
+-- proposed from the loop's first test
+abbrev pub decreases-read_block-loop-left : goal.decreases-read_block-loop-left
+decreases-read_block-loop-left l = l.left

@@ -1,0 +1,21 @@
+use Rattle.std.proofs.Common.{rules, ◌≡◌, ◌-◌, ℕ, ◌+◌, ◌*◌, ◌<◌, ◌≤◌, length, ◌/◌, ◌%◌, Bool, true, false, nat_eq, nat_lt, List, [], ◌∷◌, ◌++◌, slice_index_or, slice_set, bit_and, bit_or, Fits, w8, w32, w64, Bor, MutBor}
+use Rattle.model.specs.Program.{read_stmt, block_at, if_at, while_at, query_at, transaction_at}
+use Rattle.program.specs.Answer.{told, Within, end_of, read_assign, read_update, FindsCode}
+use Rattle.parser.proofs.StatementLaws.{updates}
+use Rattle.parser.proofs.statements.read_update.Goals as goal
+
+-- src/statements.rt:186:9
+pub returns-then-program-at : goal.returns-then-program-at
+returns-then-program-at c = search (rules, updates)
+
+-- src/statements.rt:190:9
+pub returns-then-n-eq0 : goal.returns-then-n-eq0
+returns-then-n-eq0 c = search (rules, updates)
+
+-- src/statements.rt:193:9
+pub returns-then-n-gt-LIST : goal.returns-then-n-gt-LIST
+returns-then-n-gt-LIST c = search (rules, updates)
+
+-- src/statements.rt:181:1
+pub returns : goal.returns
+returns c = search (rules, updates)
