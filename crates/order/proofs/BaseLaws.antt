@@ -130,6 +130,7 @@ module _ (w : List ℕ) (low : ℕ) where
 
   holders_has : (n i : ℕ) → i < n → Lies i → has (holders w low n) i ≡ true
   unfolding holders
+  holders_has zero i l d = elim l [ ]
   holders_has (suc n) i l d =
       ⊎_elim (λ e. next_same (holders w low n) n i (within low (get_or w n 0)) (rw e at d) e)
       (λ k. next_has (holders w low n) n i (within low (get_or w n 0)) (holders_has n i k d)) (last_or n i l)

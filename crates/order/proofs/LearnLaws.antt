@@ -3,7 +3,7 @@ use mathlib.Core.Path.{◌≡◌, refl, sym, ap, ◌∙◌}
 use Prim.Native.Nat.{ℕ, ◌+◌, ◌<◌, ◌≤◌}
 use mathlib.Core.List.{List, ◌∷◌}
 use mathlib.Core.Logic.{⊎_elim}
-use mathlib.Core.Bool.{Bool, true, false, cond, ◌||◌, ◌&&◌, or-false, and-true, and_false}
+use mathlib.Core.Bool.{Bool, true, false, cond, ◌||◌, ◌&&◌, or-false, and-true, and-false}
 use native.Mathlib.Omega.{arith}
 use native.Mathlib.Decide.{dec_lt}
 use lib.ListN.{length}
@@ -81,7 +81,7 @@ holds_grown y l r a = go (holds r y)
   where
     go : (b : Bool) → holds (cond b (union r l) r) a ≡ holds r a || (holds l a && b)
     go true = rw (and-true (holds l a)) (holds_union r l a)
-    go false = rw (and_false (holds l a), or-false (holds r a))
+    go false = rw (and-false (holds l a), or-false (holds r a))
 
 same : {a b c a' b' c' : Bool} → a ≡ a' → b ≡ b' → c ≡ c' → (a || (b && c)) ≡ (a' || (b' && c'))
 same p q r = rw (p, q, r)

@@ -1,6 +1,4 @@
-use Rattle.std.proofs.Common.{rules, ◌≡◌, length, ℕ, ◌+◌, ◌-◌, ◌*◌, ◌<◌, ◌≤◌, ◌/◌, ◌%◌, Bool, true, false, nat_eq, nat_lt, List, [], ◌∷◌, ◌++◌, slice_index_or, slice_set, bit_and, bit_or, Fits, w8, w32, w64, Bor, MutBor}
-use Rattle.shared.specs.Words.{single}
-use Rattle.gathered.specs.Labels.{variable_added, AllAdded, LabelsAt}
+use Rattle.std.proofs.Common.{rules}
 use Rattle.gathered.proofs.LabelLaws.{labels, labels_binary}
 use Rattle.gathered.proofs.labels.+expr_labels.Goals as goal
 
@@ -22,4 +20,4 @@ returns-in-Variable-clause-labels_at t c = search (rules, labels)
 
 -- src/labels.rt:50:1
 pub returns-in-Binary-clause-labels_at : goal.returns-in-Binary-clause-labels_at
-returns-in-Binary-clause-labels_at t c = search (rules, labels)
+returns-in-Binary-clause-labels_at t c = labels_binary _ _ _ _ c.expression_at.ensures _ c.in-Is.is _ _ _ _ _ _ _ c.in-Binary.is c.ahead-next.ensures c.expr_labels-mid.ensures.labels_at c.expr_labels.ensures.labels_at

@@ -1,6 +1,4 @@
-use Rattle.std.proofs.Common.{◌-◌, ◌≡◌, length, ℕ, ◌+◌, ◌*◌, ◌<◌, ◌≤◌}
-use Rattle.shared.specs.Words.{single}
-use Rattle.gathered.specs.Labels.{variable_added, AllAdded, LabelsAt}
+use Rattle.std.proofs.Common.{◌-◌}
 use Rattle.gathered.proofs.LabelLaws.{Gathered}
 use Rattle.gathered.proofs.labels.all_labels.Given as goal
 

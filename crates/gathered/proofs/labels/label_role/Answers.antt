@@ -1,6 +1,4 @@
-use Rattle.std.proofs.Common.{rules, ◌≡◌, length, ℕ, ◌+◌, ◌-◌, ◌*◌, ◌<◌, ◌≤◌, ◌/◌, ◌%◌, Bool, true, false, nat_eq, nat_lt, List, [], ◌∷◌, ◌++◌, slice_index_or, slice_set, bit_and, bit_or, Fits, w8, w32, w64, Bor, MutBor}
-use Rattle.shared.specs.Words.{single}
-use Rattle.gathered.specs.Labels.{variable_added, AllAdded, LabelsAt}
+use Rattle.std.proofs.Common.{rules}
 use Rattle.gathered.proofs.LabelLaws.{label_roles}
 use Rattle.gathered.proofs.labels.label_role.Goals as goal
 

@@ -1,7 +1,4 @@
-use Rattle.std.proofs.Common.{rules, ◌≡◌, ◌≤◌, eqb, ℕ, ◌+◌, ◌-◌, ◌*◌, ◌<◌, length, ◌/◌, ◌%◌, Bool, true, false, nat_lt, List, [], ◌∷◌, ◌++◌, slice_index_or, slice_set, bit_and, bit_or, Fits, w8, w32, w64, Bor, MutBor}
-use Rattle.model.specs.Bytes.{byte}
-use Rattle.program.specs.Codes.{statement_of, expression_of, atom_of}
-use Rattle.gathered.specs.Positions.{ahead, after_list, ExprEnds}
+use Rattle.std.proofs.Common.{rules}
 use Rattle.gathered.proofs.PositionLaws.{lists}
 use Rattle.gathered.proofs.positions.after_list.Goals as goal
 

@@ -1,7 +1,5 @@
-use Rattle.std.proofs.Common.{◌≡◌, ◌+◌, ◌%◌, ◌≤◌, length, ℕ, ◌-◌, ◌*◌, ◌<◌}
-use Rattle.model.specs.Bytes.{byte}
-use Rattle.model.specs.Sets.{with}
-use Rattle.gathered.specs.Writes.{AssignWrites, UpdateWrites, WritesAt, PairWrites, BlockWrites}
+use Rattle.std.proofs.Common.{◌≡◌, ◌+◌, length, ◌*◌}
+use Rattle.gathered.proofs.WriteLaws.{Gathering}
 use Rattle.gathered.proofs.writes.+writing.Given as goal
 
 abbrev pub decreases-block_writes : goal.decreases-block_writes
@@ -20,7 +18,7 @@ abbrev pub decreases-stmt_writes : goal.decreases-stmt_writes
 decreases-stmt_writes l = 3 * l.depth
 
 abbrev pub invariant-block_writes-loop-statements : goal.invariant-block_writes-loop-statements
-invariant-block_writes-loop-statements l = ?
+invariant-block_writes-loop-statements l = (length l.written ≡ 2) × Gathering l.program.now l.depth l.at l.initial.written l.statements l.next l.written
 
 -- proposed from the loop's first test
 abbrev pub decreases-block_writes-loop-statements : goal.decreases-block_writes-loop-statements

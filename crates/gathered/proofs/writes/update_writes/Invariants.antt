@@ -1,7 +1,4 @@
-use Rattle.std.proofs.Common.{◌≡◌, ◌+◌, ◌%◌, ◌≤◌, length, ℕ, ◌-◌, ◌*◌, ◌<◌}
-use Rattle.model.specs.Bytes.{byte}
-use Rattle.model.specs.Sets.{with}
-use Rattle.gathered.specs.Writes.{AssignWrites, UpdateWrites, WritesAt, PairWrites, BlockWrites}
+use Rattle.std.proofs.Common.{◌+◌, ◌≤◌, length, ◌*◌}
 use Rattle.gathered.proofs.WriteLaws.{Mutating}
 use Rattle.gathered.proofs.writes.update_writes.Given as goal
 

@@ -1,9 +1,4 @@
-use Rattle.std.proofs.Common.{rules, ◌≡◌, [], ◌+◌, ◌-◌, ◌^◌, ◌<◌, ◌≤◌, length, ℕ, ◌*◌, ◌/◌, ◌%◌, Bool, true, false, nat_eq, nat_lt, List, ◌∷◌, ◌++◌, slice_index_or, slice_set, bit_and, bit_or, Fits, w8, w32, w64, Bor, MutBor}
-use Rattle.model.specs.Limits.{role_limit}
-use Rattle.model.specs.Policy.{Accepted, roles, HasRow, watchers}
-use Rattle.program.specs.Layout.{side_of}
-use Rattle.order.specs.Table.{table_words, union, with_role, Knows}
-use Rattle.order.specs.Base.{Loaded, WordsOf, holders, fixed_row, RoleRows, RowsOf, FindsAlike, Filled}
+use Rattle.std.proofs.Common.{rules}
 use Rattle.order.proofs.BaseLaws.{all_below, single_some}
 use Rattle.order.proofs.base.all_of.Goals as goal
 

@@ -1,9 +1,7 @@
-use Rattle.std.proofs.Common.{◌-◌, ◌≡◌, [], ◌+◌, ◌^◌, ◌<◌, ◌≤◌, length, ℕ, ◌*◌}
+use Rattle.std.proofs.Common.{◌-◌, ◌≤◌}
 use Rattle.model.specs.Limits.{role_limit}
-use Rattle.model.specs.Policy.{Accepted, roles, HasRow, watchers}
 use Rattle.program.specs.Layout.{side_of}
-use Rattle.order.specs.Table.{table_words, union, with_role, Knows}
-use Rattle.order.specs.Base.{Loaded, WordsOf, holders, fixed_row, RoleRows, RowsOf, FindsAlike, Filled}
+use Rattle.order.specs.Base.{Loaded}
 use Rattle.order.proofs.base.load_watchers.Given as goal
 
 abbrev pub invariant-loop-j : goal.invariant-loop-j

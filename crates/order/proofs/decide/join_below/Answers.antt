@@ -1,7 +1,4 @@
-use Rattle.std.proofs.Common.{rules, ◌≡◌, length, ℕ, ◌+◌, ◌-◌, ◌*◌, ◌<◌, ◌≤◌, ◌/◌, ◌%◌, Bool, true, false, nat_eq, nat_lt, List, [], ◌∷◌, ◌++◌, slice_index_or, slice_set, bit_and, bit_or, Fits, w8, w32, w64, Bor, MutBor}
-use Rattle.program.specs.Codes.{model_atom}
-use Rattle.program.specs.Layout.{side_of}
-use Rattle.order.specs.Table.{table_words, Decides}
+use Rattle.std.proofs.Common.{rules}
 use Rattle.order.proofs.DecideLaws.{decisions}
 use Rattle.order.proofs.decide.join_below.Goals as goal
 

@@ -1,8 +1,6 @@
-use Rattle.std.proofs.Common.{◌-◌, ◌≡◌, ◌+◌, ◌<◌, ◌≤◌, length, ℕ, ◌*◌}
-use Rattle.model.specs.Limits.{role_limit}
+use Rattle.std.proofs.Common.{◌-◌, ◌≤◌}
 use Rattle.program.specs.Codes.{model_atom}
-use Rattle.order.specs.Table.{table_words, table_rows, query_of, Learnt, DecidesQuery}
-use Rattle.order.specs.Learn.{Grew, AllGrew}
+use Rattle.order.specs.Learn.{Grew}
 use Rattle.order.proofs.learn.grow_rows.Given as goal
 
 abbrev pub invariant-loop-i : goal.invariant-loop-i

@@ -1,6 +1,6 @@
 use Rattle.std.proofs.Common.{◌≡◌, ◌-◌, ℕ, ◌+◌, ◌*◌, ◌<◌, ◌≤◌, length}
-use Rattle.model.specs.Program.{read_stmt, block_at, if_at, while_at, query_at, transaction_at}
-use Rattle.program.specs.Answer.{told, Within, end_of, read_assign, read_update, FindsCode}
+use Rattle.model.specs.Program.{read_many, read_stmt, block_at, if_at, while_at, query_at, transaction_at}
+use Rattle.program.specs.Answer.{place_limit, told, Within, end_of, read_assign, read_update, FindsCode}
 use Rattle.parser.proofs.statements.+reading.Given as goal
 
 abbrev pub decreases-read_block : goal.decreases-read_block
@@ -28,7 +28,7 @@ abbrev pub decreases-read_while : goal.decreases-read_while
 decreases-read_while l = 4 * l.depth + 3
 
 abbrev pub invariant-read_block-loop-left : goal.invariant-read_block-loop-left
-invariant-read_block-loop-left l = ?
+invariant-read_block-loop-left l = (end_of (read_many (read_stmt l.program.now l.principals l.roles l.vars l.depth) l.left l.next) ≡ end_of (block_at l.program.now l.principals l.roles l.vars (read_stmt l.program.now l.principals l.roles l.vars l.depth) l.at)) × (l.next < place_limit)
 
 -- proposed from the loop's first test
 abbrev pub decreases-read_block-loop-left : goal.decreases-read_block-loop-left

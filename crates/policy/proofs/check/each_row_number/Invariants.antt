@@ -1,9 +1,7 @@
-use Rattle.std.proofs.Common.{◌-◌, ◌≡◌, true, ◌^◌, ◌<◌, ℕ, ◌+◌, ◌*◌, ◌≤◌, length}
+use Rattle.std.proofs.Common.{◌-◌, ◌≡◌, ◌≤◌, length}
 use Rattle.model.specs.Number.{first_below}
-use Rattle.model.specs.Sets.{has}
-use Rattle.model.specs.Policy.{roles, HasRow, takes, AcceptedHead, head_number, principal_number, owner_number, row_number, taken_number, takes_number, grants_number, policy_number}
-use Rattle.policy.specs.Pairs.{Seen, SeenAfter}
-use Rattle.policy.specs.Takable.{Takable}
+use Rattle.model.specs.Policy.{row_number}
+use Rattle.policy.specs.Pairs.{Seen}
 use Rattle.policy.proofs.check.each_row_number.Given as goal
 
 abbrev pub invariant-loop-i : goal.invariant-loop-i

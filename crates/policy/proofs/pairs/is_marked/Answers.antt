@@ -1,7 +1,4 @@
-use Rattle.std.proofs.Common.{rules, ◌≡◌, ◌+◌, ◌*◌, ◌<◌, length, ℕ, ◌-◌, ◌≤◌, ◌/◌, ◌%◌, Bool, true, false, nat_eq, nat_lt, List, [], ◌∷◌, ◌++◌, slice_index_or, slice_set, bit_and, bit_or, Fits, w8, w32, w64, Bor, MutBor}
-use Rattle.model.specs.Number.{first_below}
-use Rattle.model.specs.Policy.{HasRow, principals, owner, name, pair_number}
-use Rattle.policy.specs.Pairs.{pair, marked, mark, Seen}
+use Rattle.std.proofs.Common.{rules}
 use Rattle.policy.proofs.PairLaws.{marked_is}
 use Rattle.policy.proofs.pairs.is_marked.Goals as goal
 

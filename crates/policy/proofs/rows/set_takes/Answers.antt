@@ -1,7 +1,4 @@
-use Rattle.std.proofs.Common.{rules, ◌≡◌, ◌+◌, ◌≤◌, length, ℕ, ◌-◌, ◌*◌, ◌<◌, ◌/◌, ◌%◌, Bool, true, false, nat_eq, nat_lt, List, [], ◌∷◌, ◌++◌, slice_index_or, slice_set, bit_and, bit_or, Fits, w8, w32, w64, Bor, MutBor}
-use Rattle.model.specs.Limits.{field_bytes}
-use Rattle.model.specs.Policy.{has_mark, principals, roles, row_at, policy_bytes, HasRow, owner, name, viewers, trusters, members, takes, may_take, may_hold}
-use Rattle.model.specs.Mutation.{put_members, put_takes}
+use Rattle.std.proofs.Common.{rules}
 use Rattle.policy.proofs.RowLaws.{writes}
 use Rattle.policy.proofs.rows.set_takes.Goals as goal
 

@@ -1,5 +1,4 @@
-use Rattle.std.proofs.Common.{length, ◌-◌, ◌≡◌, ◌+◌, ◌%◌, ◌<◌, ◌≤◌, ℕ, ◌*◌}
-use Rattle.model.specs.Bytes.{byte, word, put, starts_with}
+use Rattle.std.proofs.Common.{length, ◌-◌, ◌≡◌, ◌+◌, ◌≤◌}
 use Rattle.shared.specs.Marks.{matching}
 use lib.ListN.{drop}
 use Rattle.shared.proofs.bytes.matching.Given as goal

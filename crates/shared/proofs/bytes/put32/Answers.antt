@@ -1,9 +1,5 @@
-use Rattle.std.proofs.Common.{rules, ◌≡◌, ◌+◌, ◌%◌, ◌<◌, ◌≤◌, length, ℕ, ◌-◌, ◌*◌, ◌/◌, Bool, true, false, nat_eq, nat_lt, List, [], ◌∷◌, ◌++◌, slice_index_or, slice_set, bit_and, bit_or, Fits, w8, w32, w64, Bor, MutBor}
-use Rattle.model.specs.Bytes.{byte, word, put, starts_with}
-use Rattle.shared.specs.Marks.{matching}
+use Rattle.std.proofs.Common.{rules}
 use Rattle.shared.proofs.ByteLaws.{puts}
-use lib.ListN.{length-set}
-use native.Mathlib.Omega.{arith}
 use Rattle.shared.proofs.bytes.put32.Goals as goal
 
 -- src/bytes.rt:50:1

@@ -1,6 +1,4 @@
-use Rattle.std.proofs.Common.{rules, ◌≡◌, ◌+◌, ◌%◌, ◌<◌, ◌≤◌, length, ℕ, ◌-◌, ◌*◌, ◌/◌, Bool, true, false, nat_eq, nat_lt, List, [], ◌∷◌, ◌++◌, slice_index_or, slice_set, bit_and, bit_or, Fits, w8, w32, w64, Bor, MutBor}
-use Rattle.model.specs.Bytes.{byte, word, put, starts_with}
-use Rattle.shared.specs.Marks.{matching}
+use Rattle.std.proofs.Common.{rules}
 use Rattle.shared.proofs.ByteLaws.{mark_whole}
 use Rattle.shared.proofs.bytes.starts_with.Goals as goal
 
