@@ -1,0 +1,12 @@
+use Rattle.std.proofs.Common.{◌-◌, ◌≡◌, ◌^◌, ◌<◌, ◌≤◌, length, get_or, ℕ, ◌+◌, ◌*◌}
+use Rattle.model.specs.Limits.{principal_limit, role_limit}
+use Rattle.model.specs.Policy.{roles, Accepted}
+use Rattle.tracked.specs.Live.{atom_words, Live, FixedLive, Watched}
+use Rattle.tracked.proofs.atoms.load_watchers.Given as goal
+
+abbrev pub invariant-loop-j : goal.invariant-loop-j
+invariant-loop-j l = (l.j ≤ l.n) × Watched l.policy l.j l.atoms
+
+-- proposed from the loop's first test
+abbrev pub decreases-loop-j : goal.decreases-loop-j
+decreases-loop-j l = l.n - l.j
