@@ -1,8 +1,5 @@
-use Rattle.std.proofs.Common.{◌≡◌, ◌+◌, ◌^◌, ◌<◌, length, ℕ, ◌-◌, ◌*◌, ◌≤◌}
-use Rattle.model.specs.Policy.{roles, members, takes, Accepted}
-use Rattle.model.specs.Meaning.{meanings, meaning, answer, meaning_of}
+use Rattle.model.specs.Policy.{members, takes}
 use Rattle.shared.specs.Words.{United}
-use Rattle.meaning.specs.Reach.{Found, Searches}
 use Rattle.meaning.proofs.least.add_rows.Given as goal
 
 abbrev pub invariant-loop-rest : goal.invariant-loop-rest

@@ -1,8 +1,6 @@
-use Rattle.std.proofs.Common.{◌≡◌, ◌+◌, ◌^◌, ◌<◌, length, ℕ, ◌-◌, ◌*◌, ◌≤◌}
-use Rattle.model.specs.Policy.{roles, members, takes, Accepted}
-use Rattle.model.specs.Meaning.{meanings, meaning, answer, meaning_of}
-use Rattle.shared.specs.Words.{United}
-use Rattle.meaning.specs.Reach.{Found, Searches}
+use Rattle.std.proofs.Common.{◌≡◌, ◌^◌, ◌-◌}
+use Rattle.model.specs.Policy.{roles}
+use Rattle.meaning.specs.Reach.{Found}
 use lib.Bits.{bit_xor}
 use Rattle.meaning.proofs.least.with_all.Given as goal
 

@@ -1,6 +1,4 @@
-use Rattle.std.proofs.Common.{rules, ◌≡◌, ℕ, ◌+◌, ◌-◌, ◌*◌, ◌<◌, ◌≤◌, length, ◌/◌, ◌%◌, Bool, true, false, nat_eq, nat_lt, List, [], ◌∷◌, ◌++◌, slice_index_or, slice_set, bit_and, bit_or, Fits, w8, w32, w64, Bor, MutBor}
-use Rattle.model.specs.Program.{read_expr}
-use Rattle.program.specs.Answer.{told, Within, end_of}
+use Rattle.std.proofs.Common.{rules}
 use Rattle.parser.proofs.ExpressionLaws.{expressions}
 use Rattle.parser.proofs.expressions.+read_expr.Goals as goal
 

@@ -1,6 +1,3 @@
-use Rattle.std.proofs.Common.{◌≡◌, ℕ, ◌+◌, ◌-◌, ◌*◌, ◌<◌, ◌≤◌, length}
-use Rattle.model.specs.Program.{read_expr}
-use Rattle.program.specs.Answer.{told, Within, end_of}
 use Rattle.parser.proofs.expressions.+read_expr.Given as goal
 
 -- proposed from what the function passes where it calls itself

@@ -1,7 +1,4 @@
-use Rattle.std.proofs.Common.{rules, ◌≡◌, ◌≤◌, length, ℕ, ◌+◌, ◌-◌, ◌*◌, ◌<◌, ◌/◌, ◌%◌, Bool, true, false, nat_eq, nat_lt, List, [], ◌∷◌, ◌++◌, slice_index_or, slice_set, bit_and, bit_or, Fits, w8, w32, w64, Bor, MutBor}
-use Rattle.model.specs.Limits.{role_limit}
-use Rattle.model.specs.Program.{version, program_head, read_mark, read_body, read_program}
-use Rattle.program.specs.Answer.{reached_by, told, Within, end_of, read_variables}
+use Rattle.std.proofs.Common.{rules}
 use Rattle.parser.proofs.FileLaws.{programs}
 use Rattle.parser.proofs.file.read_program.Goals as goal
 

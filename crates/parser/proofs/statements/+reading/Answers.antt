@@ -1,6 +1,4 @@
-use Rattle.std.proofs.Common.{rules, ◌≡◌, ◌-◌, ℕ, ◌+◌, ◌*◌, ◌<◌, ◌≤◌, length, ◌/◌, ◌%◌, Bool, true, false, nat_eq, nat_lt, List, [], ◌∷◌, ◌++◌, slice_index_or, slice_set, bit_and, bit_or, Fits, w8, w32, w64, Bor, MutBor}
-use Rattle.model.specs.Program.{read_stmt, block_at, if_at, while_at, query_at, transaction_at}
-use Rattle.program.specs.Answer.{told, Within, end_of, read_assign, read_update, FindsCode}
+use Rattle.std.proofs.Common.{rules}
 use Rattle.parser.proofs.StatementLaws.{statements, blocks, skips, skip_branch, found_low, parts, ifs, whiles, queries, transactions}
 use Rattle.parser.proofs.statements.+reading.Goals as goal
 

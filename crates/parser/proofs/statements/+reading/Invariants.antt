@@ -1,6 +1,6 @@
-use Rattle.std.proofs.Common.{◌≡◌, ◌-◌, ℕ, ◌+◌, ◌*◌, ◌<◌, ◌≤◌, length}
-use Rattle.model.specs.Program.{read_many, read_stmt, block_at, if_at, while_at, query_at, transaction_at}
-use Rattle.program.specs.Answer.{place_limit, told, Within, end_of, read_assign, read_update, FindsCode}
+use Rattle.std.proofs.Common.{◌≡◌, ◌+◌, ◌*◌, ◌<◌}
+use Rattle.model.specs.Program.{read_many, read_stmt, block_at}
+use Rattle.program.specs.Answer.{place_limit, end_of}
 use Rattle.parser.proofs.statements.+reading.Given as goal
 
 abbrev pub decreases-read_block : goal.decreases-read_block

@@ -1,8 +1,4 @@
-use Rattle.std.proofs.Common.{rules, ◌≡◌, ◌+◌, ◌≤◌, length, ℕ, ◌-◌, ◌*◌, ◌<◌, ◌/◌, ◌%◌, Bool, true, false, nat_eq, nat_lt, List, [], ◌∷◌, ◌++◌, slice_index_or, slice_set, bit_and, bit_or, Fits, w8, w32, w64, Bor, MutBor}
-use Rattle.model.specs.Limits.{role_limit}
-use Rattle.model.specs.Program.{read_below, read_atom, read_label, read_query, read_mutation}
-use Rattle.program.specs.Answer.{told, Within, end_of}
-use Rattle.program.specs.Entries.{FindsMutation}
+use Rattle.std.proofs.Common.{rules}
 use Rattle.program.proofs.AtomLaws.{mutations}
 use Rattle.program.proofs.atoms.read_mutation.Goals as goal
 

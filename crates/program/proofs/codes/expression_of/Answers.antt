@@ -1,5 +1,4 @@
-use Rattle.std.proofs.Common.{rules, ◌≡◌, ℕ, ◌+◌, ◌-◌, ◌*◌, ◌<◌, ◌≤◌, length, ◌/◌, ◌%◌, Bool, true, false, nat_eq, nat_lt, List, [], ◌∷◌, ◌++◌, slice_index_or, slice_set, bit_and, bit_or, Fits, w8, w32, w64, Bor, MutBor}
-use Rattle.program.specs.Codes.{atom_of, role_below, kind_of, operand_bound, expression_of, statement_of}
+use Rattle.std.proofs.Common.{rules}
 use Rattle.program.proofs.CodeLaws.{expressions}
 use Rattle.program.proofs.codes.expression_of.Goals as goal
 

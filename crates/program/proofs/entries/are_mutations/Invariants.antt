@@ -1,7 +1,4 @@
-use Rattle.std.proofs.Common.{◌≡◌, ℕ, ◌+◌, ◌-◌, ◌*◌, ◌<◌, ◌≤◌, length}
-use Rattle.model.specs.Program.{read_many, read_mutation}
-use Rattle.program.specs.Answer.{told, Within, end_of}
-use Rattle.program.specs.Entries.{Room, read_entry, FindsMutations}
+use Rattle.std.proofs.Common.{◌+◌, ◌*◌, ◌≤◌, length}
 use Rattle.program.proofs.EntryLaws.{Finding}
 use Rattle.program.proofs.entries.are_mutations.Given as goal
 

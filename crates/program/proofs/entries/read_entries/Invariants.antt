@@ -1,7 +1,7 @@
-use Rattle.std.proofs.Common.{◌≡◌, ℕ, ◌+◌, ◌-◌, ◌*◌, ◌<◌, ◌≤◌, length}
-use Rattle.model.specs.Program.{read_many, read_mutation}
-use Rattle.program.specs.Answer.{told, Within, end_of}
-use Rattle.program.specs.Entries.{Room, read_entry, FindsMutations}
+use Rattle.std.proofs.Common.{◌≡◌, ◌<◌}
+use Rattle.model.specs.Program.{read_many}
+use Rattle.program.specs.Answer.{end_of}
+use Rattle.program.specs.Entries.{read_entry}
 use Rattle.program.specs.Answer.{place_limit}
 use Rattle.program.proofs.entries.read_entries.Given as goal
 

@@ -1,7 +1,4 @@
-use Rattle.std.proofs.Common.{rules, ◌≡◌, ℕ, ◌+◌, ◌-◌, ◌*◌, ◌<◌, ◌≤◌, length, ◌/◌, ◌%◌, Bool, true, false, nat_eq, nat_lt, List, [], ◌∷◌, ◌++◌, slice_index_or, slice_set, bit_and, bit_or, Fits, w8, w32, w64, Bor, MutBor}
-use Rattle.model.specs.Program.{read_many, read_mutation}
-use Rattle.program.specs.Answer.{told, Within, end_of}
-use Rattle.program.specs.Entries.{Room, read_entry, FindsMutations}
+use Rattle.std.proofs.Common.{rules}
 use Rattle.program.proofs.EntryLaws.{mutations_found}
 use Rattle.program.proofs.entries.read_mutations.Goals as goal
 

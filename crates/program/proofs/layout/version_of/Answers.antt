@@ -1,6 +1,4 @@
-use Rattle.std.proofs.Common.{rules, ◌≡◌, ℕ, ◌+◌, ◌-◌, ◌*◌, ◌<◌, ◌≤◌, length, ◌/◌, ◌%◌, Bool, true, false, nat_eq, nat_lt, List, [], ◌∷◌, ◌++◌, slice_index_or, slice_set, bit_and, bit_or, Fits, w8, w32, w64, Bor, MutBor}
-use Rattle.model.specs.Program.{version, variables, label_at, label_byte, body_at}
-use Rattle.program.specs.Layout.{side_of}
+use Rattle.std.proofs.Common.{rules}
 use Rattle.program.proofs.LayoutLaws.{versions}
 use Rattle.program.proofs.layout.version_of.Goals as goal
 

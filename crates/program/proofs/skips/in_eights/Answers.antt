@@ -1,5 +1,4 @@
-use Rattle.std.proofs.Common.{rules, ◌≡◌, ◌+◌, ◌≤◌, ℕ, ◌-◌, ◌*◌, ◌<◌, length, ◌/◌, ◌%◌, Bool, true, false, nat_eq, nat_lt, List, [], ◌∷◌, ◌++◌, slice_index_or, slice_set, bit_and, bit_or, Fits, w8, w32, w64, Bor, MutBor}
-use Rattle.program.specs.Skips.{Skips}
+use Rattle.std.proofs.Common.{rules}
 use Rattle.program.proofs.SkipLaws.{eights}
 use Rattle.program.proofs.skips.in_eights.Goals as goal
 

@@ -1,0 +1,23 @@
+use Rattle.std.proofs.Common.{◌≡◌, ◌-◌, ℕ, ◌+◌, ◌*◌, ◌<◌, ◌≤◌, length}
+use Rattle.transactions.specs.Bodies.{none_found, FoundAt, FoundInPair, FoundInBlock, FoundInBody}
+use Rattle.transactions.proofs.BodyLaws.{Searching}
+use Rattle.transactions.proofs.bodies.+finding.Given as goal
+
+abbrev pub decreases-find_body : goal.decreases-find_body
+decreases-find_body l = 2 * l.depth
+
+abbrev pub decreases-find_in_block : goal.decreases-find_in_block
+decreases-find_in_block l = 2 * l.depth + 1
+
+abbrev pub decreases-find_in_pair : goal.decreases-find_in_pair
+decreases-find_in_pair l = 2 * l.depth + 1
+
+abbrev pub decreases-find_in_transaction : goal.decreases-find_in_transaction
+decreases-find_in_transaction l = 2 * l.depth + 1
+
+abbrev pub invariant-find_in_block-loop-statements : goal.invariant-find_in_block-loop-statements
+invariant-find_in_block-loop-statements l = Searching l.program.now l.depth l.at l.k l.statements l.next l.left
+
+-- proposed from the loop's first test
+abbrev pub decreases-find_in_block-loop-statements : goal.decreases-find_in_block-loop-statements
+decreases-find_in_block-loop-statements l = l.statements
