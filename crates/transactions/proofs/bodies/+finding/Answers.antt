@@ -1,6 +1,5 @@
-use Rattle.std.proofs.Common.{rules, ◌≡◌, ◌-◌, ℕ, ◌+◌, ◌*◌, ◌<◌, ◌≤◌}
-use Rattle.transactions.specs.Bodies.{none_found, FoundAt, FoundInPair, FoundInBlock, FoundInBody}
-use Rattle.transactions.proofs.BodyLaws.{Searching, found_none, found_unknown, found_skip, found_assign, found_block, found_if, found_while, found_query, found_update, found_transaction, inside, pairs, searchings}
+use Rattle.std.proofs.Common.{rules}
+use Rattle.transactions.proofs.BodyLaws.{found_none, found_unknown, found_skip, found_assign, found_block, found_if, found_while, found_query, found_update, found_transaction, inside, pairs, searchings}
 use Rattle.transactions.proofs.bodies.+finding.Goals as goal
 
 pub find_body-returns-then-depth-eq0 : goal.find_body-returns-then-depth-eq0

@@ -1,5 +1,4 @@
-use Rattle.std.proofs.Common.{◌≡◌, ◌-◌, ℕ, ◌+◌, ◌*◌, ◌<◌, ◌≤◌, length}
-use Rattle.transactions.specs.Bodies.{none_found, FoundAt, FoundInPair, FoundInBlock, FoundInBody}
+use Rattle.std.proofs.Common.{◌+◌, ◌*◌}
 use Rattle.transactions.proofs.BodyLaws.{Searching}
 use Rattle.transactions.proofs.bodies.+finding.Given as goal
 

@@ -1,0 +1,17 @@
+use Rattle.std.proofs.Common.{◌≡◌, ◌<◌, ◌≤◌, length, get_or, set, ℕ, ◌+◌, ◌-◌, ◌*◌}
+use Rattle.model.specs.Limits.{principal_limit, role_limit}
+use Rattle.model.specs.Sets.{has}
+use Rattle.tracked.specs.Live.{atom_words}
+use Rattle.tracked.specs.Index.{known_at, index_words, current, placed, Tracked, Upward, Reaching, Known, Learnt}
+use Rattle.settling.specs.Settle.{Settling, Settled, Spread}
+use Prim.Native.Nat.{◌^◌}
+use Rattle.settling.proofs.SettleLaws.{Climbing}
+use lib.Bits.{bit_xor}
+use Rattle.settling.proofs.settle.climb.Given as goal
+
+abbrev pub invariant-loop-left : goal.invariant-loop-left
+invariant-loop-left l = (l.left ≡ bit_xor l.seen l.done) × Climbing (current l.index) l.start l.seen l.done
+
+-- proposed from the loop's first test
+abbrev pub decreases-loop-left : goal.decreases-loop-left
+decreases-loop-left l = 2 ^ 64 - l.done

@@ -1,0 +1,16 @@
+use Rattle.std.proofs.Common.{◌-◌, ◌≡◌, ◌<◌, ◌≤◌, length, get_or, set, ℕ, ◌+◌, ◌*◌}
+use Rattle.model.specs.Limits.{principal_limit, role_limit}
+use Rattle.model.specs.Sets.{has}
+use Rattle.tracked.specs.Live.{atom_words}
+use Rattle.tracked.specs.Index.{known_at, index_words, current, placed, Tracked, Upward, Reaching, Known, Learnt}
+use Rattle.settling.specs.Settle.{Settling, Settled, Spread}
+use Prim.Native.Nat.{◌%◌}
+use Rattle.settling.proofs.SettleLaws.{Spreading}
+use Rattle.settling.proofs.settle.spread.Given as goal
+
+abbrev pub invariant-loop-i : goal.invariant-loop-i
+invariant-loop-i l = (l.i ≤ role_limit) × (l.i % 4 ≡ 0) × (length l.atoms ≡ length l.initial.atoms) × Spreading l.i l.among l.rest l.p l.initial.atoms l.atoms
+
+-- proposed from the loop's first test
+abbrev pub decreases-loop-i : goal.decreases-loop-i
+decreases-loop-i l = l.count - l.i
