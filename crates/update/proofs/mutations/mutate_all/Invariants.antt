@@ -1,0 +1,15 @@
+use Rattle.std.proofs.Common.{◌-◌, ◌+◌, ◌<◌, ◌≤◌, length, ◌≡◌, ℕ, ◌*◌}
+use Rattle.model.specs.Policy.{roles}
+use Rattle.model.specs.Mutation.{operand_count}
+use Rattle.program.specs.Codes.{model_kind}
+use Rattle.tracked.specs.Index.{Mirrored, member_kind, taken_kind, Made}
+use Rattle.update.specs.Mutations.{MutableOne, Mutable, MutatedOne, Mutated}
+use Rattle.update.proofs.MutationLaws.{Mutating}
+use Rattle.update.proofs.mutations.mutate_all.Given as goal
+
+abbrev pub invariant-loop-i : goal.invariant-loop-i
+invariant-loop-i l = (l.count < 256) × (length l.policy ≡ length l.initial.policy) × (length l.index ≡ length l.initial.index) × Mutating l.program l.initial.policy l.at l.initial.index l.policy l.index l.count l.next l.i
+
+-- proposed from the loop's first test
+abbrev pub decreases-loop-i : goal.decreases-loop-i
+decreases-loop-i l = l.count - l.i
