@@ -1,0 +1,17 @@
+use Rattle.std.proofs.Common.{rules, ◌≡◌, ◌*◌, ◌<◌, ◌≤◌, length, take, ℕ, ◌+◌, ◌-◌, ◌/◌, ◌%◌, Bool, true, false, nat_eq, nat_lt, List, [], ◌∷◌, ◌++◌, slice_index_or, slice_set, bit_and, bit_or, Fits, w8, w32, w64, Bor, MutBor}
+use Rattle.model.specs.Memory.{memory_of}
+use Rattle.turn.specs.Memory.{Kept}
+use Rattle.turn.proofs.MemoryLaws.{copies}
+use Rattle.turn.proofs.memory.copy_bytes.Goals as goal
+
+-- src/memory.rt:52:5
+pub loop-i-init : goal.loop-i-init
+loop-i-init c = search (rules, copies)
+
+-- src/memory.rt:52:5
+pub loop-i-preserved : goal.loop-i-preserved
+loop-i-preserved c = search (rules, copies)
+
+-- src/memory.rt:47:1
+pub returns : goal.returns
+returns c = search (rules, copies)
