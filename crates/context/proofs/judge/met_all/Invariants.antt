@@ -1,3 +1,4 @@
+-- A meet for what is left of the set is one for the whole: the lowest number leaves the set, and its row joins the meet.
 use Rattle.program.specs.Layout.{side_of}
 use Rattle.context.proofs.JudgeLaws.{Meeting}
 use Rattle.context.proofs.judge.met_all.Given as goal

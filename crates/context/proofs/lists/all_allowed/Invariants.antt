@@ -1,3 +1,4 @@
+-- The answer for the mutations that are left is the answer for all: one that is allowed may go. What is left lies within the bytes.
 use Rattle.std.proofs.Common.{◌+◌, ◌≤◌, length, ◌*◌}
 use Rattle.context.proofs.ListLaws.{Allowing}
 use Rattle.context.proofs.lists.all_allowed.Given as goal

@@ -1,3 +1,5 @@
+-- The answer for the queries that are left is the answer for all: one that is not the asked one may go. What is left lies within
+-- the bytes.
 use Rattle.std.proofs.Common.{◌+◌, ◌≤◌, length, ◌*◌}
 use Rattle.context.proofs.ListLaws.{Listing}
 use Rattle.context.proofs.lists.is_listed.Given as goal

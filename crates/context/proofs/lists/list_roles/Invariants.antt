@@ -1,3 +1,4 @@
+-- The roles found so far, with those of the queries that are left, are the roles of all.
 use Rattle.context.proofs.ListLaws.{Naming}
 use Rattle.context.proofs.lists.list_roles.Given as goal
 

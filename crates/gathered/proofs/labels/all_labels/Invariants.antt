@@ -1,3 +1,4 @@
+-- The loop keeps this: the labels of all variables below x are added.
 use Rattle.std.proofs.Common.{◌-◌}
 use Rattle.gathered.proofs.LabelLaws.{Gathered}
 use Rattle.gathered.proofs.labels.all_labels.Given as goal

@@ -1,3 +1,6 @@
+-- A statement calls block and pair with one less of depth, and these call statements with what they were given: three times
+-- the depth, one more in a block's statement and in a branch, two in block and pair, falls at every call. A block's loop keeps
+-- that what is left adds to the words as they are what all adds.
 use Rattle.std.proofs.Common.{◌≡◌, ◌+◌, length, ◌*◌}
 use Rattle.gathered.proofs.WriteLaws.{Gathering}
 use Rattle.gathered.proofs.writes.+writing.Given as goal

@@ -1,3 +1,5 @@
+-- The loop keeps this: the roles gathered, with those of the mutations left to read, are the roles that the whole list mutates;
+-- and what is left to read lies within the bytes.
 use Rattle.std.proofs.Common.{◌+◌, ◌≤◌, length, ◌*◌}
 use Rattle.gathered.proofs.WriteLaws.{Mutating}
 use Rattle.gathered.proofs.writes.update_writes.Given as goal

@@ -1,3 +1,4 @@
+-- The rows of the roles that are not left are put together.
 use Rattle.model.specs.Policy.{members, takes}
 use Rattle.shared.specs.Words.{United}
 use Rattle.meaning.proofs.least.add_rows.Given as goal

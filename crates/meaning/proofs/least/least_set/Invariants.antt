@@ -1,3 +1,4 @@
+-- After each round the search is done with all that it had seen before.
 use Rattle.std.proofs.Common.{◌-◌, ◌^◌}
 use Rattle.model.specs.Policy.{roles}
 use Rattle.meaning.specs.Reach.{Reached}

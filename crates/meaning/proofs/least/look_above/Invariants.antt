@@ -1,3 +1,4 @@
+-- The searches from role i on stand.
 use Rattle.std.proofs.Common.{length, ◌≤◌}
 use Rattle.meaning.specs.Reach.{Searches}
 use Rattle.meaning.proofs.least.look_above.Given as goal

@@ -1,3 +1,4 @@
+-- The searches stand, and the first i have their roles' meanings.
 use Rattle.std.proofs.Common.{length, ◌-◌, ◌≤◌}
 use Rattle.meaning.specs.Reach.{Searches}
 use Rattle.meaning.proofs.ReachLaws.{Told}

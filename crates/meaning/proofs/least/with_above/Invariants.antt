@@ -1,3 +1,4 @@
+-- Whatever is left, the search stands; each turn it is done with one role more.
 use Rattle.std.proofs.Common.{◌≡◌, ◌^◌, ◌-◌}
 use Rattle.model.specs.Policy.{roles}
 use Rattle.meaning.specs.Reach.{Found}

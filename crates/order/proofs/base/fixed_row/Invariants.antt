@@ -1,3 +1,4 @@
+-- The loop's invariant: the holders found are those among the roles passed.
 use Rattle.std.proofs.Common.{◌-◌, ◌≡◌, ◌≤◌}
 use Rattle.order.specs.Base.{holders}
 use Rattle.order.proofs.base.fixed_row.Given as goal

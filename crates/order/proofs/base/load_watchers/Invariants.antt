@@ -1,3 +1,4 @@
+-- The loop's invariant: the words of the roles passed are their watchers.
 use Rattle.std.proofs.Common.{◌-◌, ◌≤◌}
 use Rattle.model.specs.Limits.{role_limit}
 use Rattle.program.specs.Layout.{side_of}

@@ -1,3 +1,4 @@
+-- The loop's invariant: the rows of the roles passed are there.
 use Rattle.std.proofs.Common.{◌-◌, ◌≤◌}
 use Rattle.order.specs.Base.{Filled}
 use Rattle.order.proofs.base.write_roles.Given as goal

@@ -1,3 +1,4 @@
+-- The loop's invariant: the rows passed have grown, all others are as they were.
 use Rattle.std.proofs.Common.{◌-◌, ◌≤◌}
 use Rattle.program.specs.Codes.{model_atom}
 use Rattle.order.specs.Learn.{Grew}

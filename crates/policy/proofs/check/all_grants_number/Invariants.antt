@@ -1,3 +1,4 @@
+-- The rows before row i gave 0, and what is takable is takable for the last of them.
 use Rattle.std.proofs.Common.{◌-◌, ◌≡◌, ◌≤◌}
 use Rattle.model.specs.Number.{first_below}
 use Rattle.model.specs.Policy.{grants_number}

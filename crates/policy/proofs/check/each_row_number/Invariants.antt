@@ -1,3 +1,4 @@
+-- The rows before row i gave 0, and their pairs of owner and name are those marked: so the first number that is not 0 is the answer.
 use Rattle.std.proofs.Common.{◌-◌, ◌≡◌, ◌≤◌, length}
 use Rattle.model.specs.Number.{first_below}
 use Rattle.model.specs.Policy.{row_number}

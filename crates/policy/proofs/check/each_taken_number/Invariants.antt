@@ -1,3 +1,4 @@
+-- Roles that the row takes and that are no longer left were right; what is left is part of what it takes.
 use Rattle.policy.proofs.TakesLaws.{Left, Passed}
 use Rattle.policy.proofs.check.each_taken_number.Given as goal
 

@@ -1,3 +1,4 @@
+-- The row lies within the bytes, so the sum that says where it begins fits.
 use Rattle.policy.proofs.RowLaws.{row_begins, row_fits}
 use native.Mathlib.Omega.{arith}
 use Rattle.policy.proofs.rows.row_at.Goals as goal

@@ -1,3 +1,4 @@
+-- The loop keeps this: reading what is left comes to what reading all does, and it lies within the bytes.
 use Rattle.std.proofs.Common.{◌+◌, ◌*◌, ◌≤◌, length}
 use Rattle.program.proofs.EntryLaws.{Finding}
 use Rattle.program.proofs.entries.are_mutations.Given as goal

@@ -1,3 +1,4 @@
+-- The loop keeps that so many skips stand in a row, and where the next would stand.
 use Rattle.std.proofs.Common.{◌≡◌, ◌+◌, ◌≤◌, ◌-◌}
 use Rattle.program.specs.Skips.{Skips}
 use Rattle.program.proofs.skips.in_eights.Given as goal

@@ -1,3 +1,4 @@
+-- The loop keeps this: the bytes before i are equal, so what is left to compare from i on decides how many match.
 use Rattle.std.proofs.Common.{length, ◌-◌, ◌≡◌, ◌+◌, ◌≤◌}
 use Rattle.shared.specs.Marks.{matching}
 use lib.ListN.{drop}

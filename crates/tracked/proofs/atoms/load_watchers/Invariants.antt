@@ -1,7 +1,5 @@
-use Rattle.std.proofs.Common.{◌-◌, ◌≡◌, ◌^◌, ◌<◌, ◌≤◌, length, get_or, ℕ, ◌+◌, ◌*◌}
-use Rattle.model.specs.Limits.{principal_limit, role_limit}
-use Rattle.model.specs.Policy.{roles, Accepted}
-use Rattle.tracked.specs.Live.{atom_words, Live, FixedLive, Watched}
+use Rattle.std.proofs.Common.{◌-◌, ◌≤◌}
+use Rattle.tracked.specs.Live.{Watched}
 use Rattle.tracked.proofs.atoms.load_watchers.Given as goal
 
 abbrev pub invariant-loop-j : goal.invariant-loop-j

@@ -1,10 +1,5 @@
-use Rattle.std.proofs.Common.{◌≡◌, ◌+◌, ◌<◌, length, get_or, replicate, ℕ, ◌-◌, ◌*◌, ◌≤◌}
-use Rattle.std.specs.Int.Bits.{bit_or}
-use Rattle.model.specs.Limits.{principal_limit, role_limit}
-use Rattle.model.specs.Policy.{roles, Accepted}
-use Rattle.shared.specs.Words.{single, United}
-use Rattle.tracked.specs.Live.{atom_words}
-use Rattle.tracked.specs.Index.{holders_at, moved_at, known_at, rewired_at, index_words, current, Mark, SetInside, Entered, Loaded, Few, placed, turns, Marked, Turned, Changed, Cleared, Sifted, Reaching, Known, Learnt}
+use Rattle.shared.specs.Words.{United}
+use Rattle.tracked.specs.Index.{current}
 use Rattle.tracked.proofs.index.union_of.Given as goal
 
 abbrev pub invariant-loop-rest : goal.invariant-loop-rest

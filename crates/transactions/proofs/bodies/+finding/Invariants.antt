@@ -1,3 +1,5 @@
+-- A statement calls a part with one less of depth, and a part calls statements with what it was given: twice the depth, and
+-- one more in a part, falls at every call. A block's loop keeps that the search of what is left comes to the search of all.
 use Rattle.std.proofs.Common.{◌+◌, ◌*◌}
 use Rattle.transactions.proofs.BodyLaws.{Searching}
 use Rattle.transactions.proofs.bodies.+finding.Given as goal
