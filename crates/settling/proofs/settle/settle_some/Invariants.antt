@@ -1,9 +1,5 @@
-use Rattle.std.proofs.Common.{◌≡◌, ◌<◌, ◌≤◌, length, get_or, set, ℕ, ◌+◌, ◌-◌, ◌*◌}
-use Rattle.model.specs.Limits.{principal_limit, role_limit}
-use Rattle.model.specs.Sets.{has}
-use Rattle.tracked.specs.Live.{atom_words}
-use Rattle.tracked.specs.Index.{known_at, index_words, current, placed, Tracked, Upward, Reaching, Known, Learnt}
-use Rattle.settling.specs.Settle.{Settling, Settled, Spread}
+use Rattle.std.proofs.Common.{◌≡◌, length}
+use Rattle.settling.specs.Settle.{Settling}
 use Rattle.model.specs.Policy.{roles}
 use Rattle.settling.proofs.settle.settle_some.Given as goal
 
