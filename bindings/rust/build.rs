@@ -1,4 +1,4 @@
-//! Links the proved library that `rt staticlib rx` writes under the repository's `target/`.
+//! Links the proved library that `tools/staticlib` writes under the repository's `target/`.
 
 use std::env;
 use std::path::Path;
@@ -10,7 +10,7 @@ fn main() {
     println!("cargo:rerun-if-changed={}", archive.display());
     assert!(
         archive.exists(),
-        "target/staticlib/librx.a is missing: run `rt staticlib rx` in the repository first"
+        "target/staticlib/librx.a is missing: run `tools/staticlib` in the repository first"
     );
     println!("cargo:rustc-link-search=native={}", folder.display());
     println!("cargo:rustc-link-lib=static=rx");

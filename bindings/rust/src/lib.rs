@@ -4,7 +4,7 @@
 //!
 //! What each call gives is fixed by a contract of the library, an equation with a definition in
 //! `crates/model/specs`; `docs/LANGUAGE.md` says what the bytes mean. Build the library first, in the
-//! repository's root: `rt staticlib rx`.
+//! repository's root: `tools/staticlib`.
 //!
 //! ```
 //! use rx::{Finished, Refusal, Refused};

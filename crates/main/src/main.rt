@@ -1,11 +1,15 @@
 #![tactic(auto)]
 // The program that is delivered: it runs the program, policy and memory of the folder that it is started in, and prints the
 // answer. It reads of each file as much as decides the number (the model's `cut_printed`), so a longer one need not fit.
-ghost use Rattle.std.specs.Prelude.{◌≡◌, length, take};
-ghost use Rattle.io.specs.Counts.{IsPrefixLen};
+ghost use Rattle.std.specs.Prelude.{◌≡◌, length, take, IfSome};
+ghost use Rattle.std.specs.Counts.{IsPrefixLen};
 ghost use Rattle.model.specs.Text.{printed, policy_cut, program_cut, memory_cut};
+ghost use Rattle.main.specs.Reading.{ReadsStart};
 
 use shared::limit;
+use std::io::{Read, Write};
+use std::rt::Files;
+use std::{fs, io};
 
 // Room for as much of a file as decides its number: one byte more than the longest that is accepted.
 fn policy_room() -> [u8; 1416]
@@ -27,16 +31,15 @@ fn memory_room() -> [u8; 257]
 }
 
 // Fills the buffer, or comes to the file's end. A file that cannot be read to there counts as empty.
-fn read_all(fd: i32, buffer: &mut [u8]) -> usize
-    ensures { IsPrefixLen result buffer.new }
+fn read_all<R: Read>(file: &mut R, buffer: &mut [u8]) -> usize
+    ensures counts { IsPrefixLen result buffer.new }
+    ensures start { IfSome (R.remaining file.old) (ReadsStart result buffer.new) }
 {
     let mut done = 0;
     while done < buffer.len() {
-        let got = libc::read(fd, &mut buffer[done..]);
-        if got < 0 {
+        let Ok(more) = file.read(&mut buffer[done..]) else {
             return 0;
-        }
-        let more = io::count(got, &buffer[done..]);
+        };
         if more == 0 {
             return done;
         }
@@ -46,16 +49,13 @@ fn read_all(fd: i32, buffer: &mut [u8]) -> usize
 }
 
 // The start of a file in the folder. A missing file counts as empty.
-fn read_file(name: &[u8], buffer: &mut [u8]) -> usize
+fn read_file(rt: &impl Files, name: &str, buffer: &mut [u8]) -> usize
     ensures { IsPrefixLen result buffer.new }
 {
-    let fd = os::open_read(name);
-    if fd < 0 {
-        return 0;
+    match fs::open(rt, name) {
+        Ok(mut file) => read_all(&mut file, buffer),
+        Err(_) => 0,
     }
-    let length = read_all(fd, buffer);
-    libc::close(fd);
-    length
 }
 
 // The text of the answer, and its length.
@@ -67,13 +67,13 @@ fn answer(policy: &mut [u8], program: &[u8], memory: &mut [u8], text: &mut [u8; 
     report::lines::write_report(text, end.number, end.units, memory)
 }
 
-fn main() {
+fn main(rt: HostRuntime) -> io::Result<()> {
     let mut policy = policy_room();
     let mut program = program_room();
     let mut memory = memory_room();
-    let policy_length = read_file(b"policy.rxt", &mut policy);
-    let program_length = read_file(b"program.rxp", &mut program);
-    let memory_length = read_file(b"memory.rxm", &mut memory);
+    let policy_length = read_file(&rt, "policy.rxt", &mut policy);
+    let program_length = read_file(&rt, "program.rxp", &mut program);
+    let memory_length = read_file(&rt, "memory.rxm", &mut memory);
     let mut text = [0u8; 2048];
     let length = answer(
         &mut policy[..policy_length],
@@ -81,5 +81,5 @@ fn main() {
         &mut memory[..memory_length],
         &mut text,
     );
-    io::write_all(libc::STDOUT_FILENO, &text[..length]);
+    io::writer(&rt).write_all(&text[..length])
 }

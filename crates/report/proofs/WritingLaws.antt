@@ -9,7 +9,7 @@ use mathlib.Core.Bool.{true, false}
 use mathlib.Core.List.{List, [], ◌∷◌, ◌++◌, append-nil}
 use lib.Dec.{ltb}
 use lib.ListN.{length, take, set, get_or, length-set}
-use lib.Seq.{take_suc, take-suc-set, take_all, append_snoc}
+use lib.Seq.{take-suc, take-suc-set, take_all, append_snoc}
 use borrow.Author.Tests.{ltb-true, lt-ltb, le-ltb}
 use Rattle.model.proofs.Truth.{true_or_false}
 use Rattle.report.specs.Writing.{written, write}
@@ -52,7 +52,7 @@ module _ (out : List ℕ) (at : ℕ) where
 
   pub all_more : (text : List ℕ) (i : ℕ) (o₁ o₂ : List ℕ) (r₁ r₂ : ℕ) → i < length text → written o₁ r₁ ≡ write out at (take i text)
       → written o₂ r₂ ≡ write o₁ r₁ (get_or text i 0 ∷ []) → written o₂ r₂ ≡ write out at (take (i + 1) text)
-  all_more text i o₁ o₂ r₁ r₂ l d e = rw (add-one, take_suc text i 0 l) (put_then (take i text) (get_or text i 0 ∷ []) o₁ o₂ r₁ r₂ d e)
+  all_more text i o₁ o₂ r₁ r₂ l d e = rw (add-one, take-suc text i 0 l) (put_then (take i text) (get_or text i 0 ∷ []) o₁ o₂ r₁ r₂ d e)
 
   pub all_end : (text : List ℕ) (i : ℕ) (o : List ℕ) (r : ℕ) → length text ≤ i → written o r ≡ write out at (take i text) → written o r ≡ write out at text
   all_end text i o r l d = rw (take_all i text l) at d

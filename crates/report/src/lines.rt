@@ -39,6 +39,7 @@ fn write_variables(out: &mut [u8], at: usize, memory: &[u8]) -> usize
 }
 
 // What follows the answer: nothing after a refusal.
+#[tactic(auto, using(crate::proofs::LineLaws::rest_accepted, crate::proofs::LineLaws::rest_refused))]
 fn write_rest(out: &mut [u8], at: usize, number: u32, units: u32, memory: &[u8]) -> usize
     ensures { written out.new result ≡ write out.old at (rest_of number units memory.now) }
 {

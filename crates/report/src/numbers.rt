@@ -30,6 +30,7 @@ pub fn write_decimal(out: &mut [u8], at: usize, n: u64) -> usize
 }
 
 // A value: a minus sign before the digits of a negative one, whose distance from zero may need the 32nd bit.
+#[tactic(auto, using(crate::proofs::NumberLaws::not_negative, crate::proofs::NumberLaws::is_negative))]
 pub fn write_signed(out: &mut [u8], at: usize, value: u32) -> usize
     ensures { written out.new result ≡ write out.old at (signed_decimal value) }
 {

@@ -1,8 +1,8 @@
 #![tactic(auto)]
-// The public face: the calls of document 01 for C and Rust, declared in include/rx.h. Each takes every input.
-// Rattle callers have policy::check::policy_number, meaning::least::meaning_of, verdict::verdict::program_verdict,
-// run::run::run and transaction_body below, of which these are the exports. What no export can say stands last: that two runs
-// leak nothing (`two_runs`).
+// The public face: the calls of document 01, as the crate rx_c exports them for C and Rust. Each takes every input.
+// Rattle callers also have policy::check::policy_number, meaning::least::meaning_of, verdict::verdict::program_verdict and
+// run::run::run, which these call, and transaction_body below. What no export can say stands last: that two runs leak nothing
+// (`two_runs`).
 ghost use Rattle.std.specs.Prelude.{◌≡◌};
 ghost use Rattle.model.specs.Number.{number_of};
 ghost use Rattle.model.specs.Policy.{policy_number};
@@ -16,16 +16,14 @@ use shared::number;
 use verdict::verdict::Verdict;
 
 // The number 0 to 6 of any bytes as a policy.
-#[unsafe(no_mangle)]
-pub extern "C" fn rx_policy(policy: &[u8]) -> u32
+pub fn rx_policy(policy: &[u8]) -> u32
     ensures { result ≡ policy_number policy.now }
 {
     policy::check::policy_number(policy)
 }
 
 // The number 0 to 7 of asking for the meaning of a role, and in `bits` the meaning, 0 at any refusal.
-#[unsafe(no_mangle)]
-pub extern "C" fn rx_meaning(policy: &[u8], role: u32, bits: &mut u32) -> u32
+pub fn rx_meaning(policy: &[u8], role: u32, bits: &mut u32) -> u32
     ensures { answer result bits.new ≡ meaning_of policy.now role }
 {
     let meaning = meaning::least::meaning_of(policy, role);
@@ -34,8 +32,7 @@ pub extern "C" fn rx_meaning(policy: &[u8], role: u32, bits: &mut u32) -> u32
 }
 
 // The number of a program under a policy: 1 to 6 of the policy, else 10 to 18 of the program, else 0.
-#[unsafe(no_mangle)]
-pub extern "C" fn rx_program(policy: &[u8], program: &[u8]) -> u32
+pub fn rx_program(policy: &[u8], program: &[u8]) -> u32
     ensures { result ≡ number_of (program_verdict policy.now program.now) }
 {
     let verdict = verdict::verdict::program_verdict(policy, program);
@@ -46,8 +43,7 @@ pub extern "C" fn rx_program(policy: &[u8], program: &[u8]) -> u32
 }
 
 // The same number, and in `place` where it shows, 0 for 0 and for the policy's numbers.
-#[unsafe(no_mangle)]
-pub extern "C" fn rx_place(policy: &[u8], program: &[u8], place: &mut usize) -> u32
+pub fn rx_place(policy: &[u8], program: &[u8], place: &mut usize) -> u32
     ensures { located result place.new ≡ place_answer policy.now program.now }
 {
     let verdict = verdict::verdict::program_verdict(policy, program);
@@ -65,8 +61,7 @@ pub extern "C" fn rx_place(policy: &[u8], program: &[u8], place: &mut usize) -> 
 
 // The same number, and where the body of transaction k starts in the program and how long it is; 0 and 0 where there is
 // none or a file is refused.
-#[unsafe(no_mangle)]
-pub extern "C" fn rx_transaction(
+pub fn rx_transaction(
     policy: &[u8],
     program: &[u8],
     k: u32,
@@ -103,8 +98,7 @@ pub fn transaction_body<'a>(policy: &[u8], program: &'a [u8], k: usize) -> &'a [
 }
 
 // A run: the number 0, 1 to 6, 10 to 18, 20, 21 or 22, and in `units` the units. Policy and memory are written by 0 alone.
-#[unsafe(no_mangle)]
-pub extern "C" fn rx_run(
+pub fn rx_run(
     policy: &mut [u8],
     program: &[u8],
     memory: &mut [u8],
