@@ -55,6 +55,7 @@ all_fits vars (suc n) l = (all_fits vars n (omega arith), l)
 
 in_list : (side : Side) (q : Query) (qs : List Query) → Memᴰ q qs → (a : Atom) → Memᴰ a (query_label side q) → Memᴰ a (list_label side qs)
 unfolding list_label
+in_list side q [] x' a m = elim x' [ ]
 in_list side q (k ∷ qs) (Memᴰ.head e) a m = Memᴰ.append_left (list_label side qs) (rw e at m)
 in_list side q (k ∷ qs) (Memᴰ.tail n) a m = Memᴰ.append_right (query_label side k) (in_list side q qs n a m)
 
