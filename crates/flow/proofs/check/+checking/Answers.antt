@@ -1,8 +1,4 @@
-use Rattle.std.proofs.Common.{rules, ◌<◌, ◌≡◌, ℕ, ◌+◌, ◌-◌, ◌*◌, ◌≤◌, length, ◌/◌, ◌%◌, Bool, true, false, nat_eq, nat_lt, List, [], ◌∷◌, ◌++◌, slice_index_or, slice_set, bit_and, bit_or, Fits, w8, w32, w64, Bor, MutBor}
-use Rattle.program.specs.declared.codes.Statement.TheVariants.{Block, If, While, Query, Transaction}
-use Rattle.context.specs.Context.{context_of}
-use Rattle.rules.specs.Check.{CheckedAt}
-use Rattle.flow.specs.Check.{Ready, CodedAt, PairAt, BothAt, LearntAt, BranchesOf}
+use Rattle.std.proofs.Common.{rules}
 use Rattle.flow.proofs.CheckLaws.{block_done, block_more, block_refused, block_row, block_start, branch_skip, branches_first, branches_second, few_roles, held_both, if_checked, learnt_both, learnt_none, pair_first, pair_second, query_free, query_known, query_listed, query_outside, query_unlisted, ready_entered, ready_held, ready_table, stmt_assign, stmt_coded, stmt_none, stmt_skip, stmt_unknown, stmt_update, transaction_body, transaction_nested, while_checked}
 use Rattle.flow.proofs.check.+checking.Goals as goal
 

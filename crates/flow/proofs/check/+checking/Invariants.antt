@@ -1,8 +1,7 @@
-use Rattle.std.proofs.Common.{◌<◌, ◌≡◌, ℕ, ◌+◌, ◌-◌, ◌*◌, ◌≤◌, length}
-use Rattle.program.specs.declared.codes.Statement.TheVariants.{Block, If, While, Query, Transaction}
+-- The cycle of checks: each return is the verdict of the tree that stands at the position, by a law for that return; the
+-- remaining depth falls, and where it stays each callee comes after its caller. A block: what is left of it decides.
+use Rattle.std.proofs.Common.{◌+◌, ◌*◌}
 use Rattle.context.specs.Context.{context_of}
-use Rattle.rules.specs.Check.{CheckedAt}
-use Rattle.flow.specs.Check.{Ready, CodedAt, PairAt, BothAt, LearntAt, BranchesOf}
 use Rattle.flow.proofs.CheckLaws.{Blocking}
 use Rattle.flow.proofs.check.+checking.Given as goal
 

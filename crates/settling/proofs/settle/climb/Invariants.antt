@@ -1,3 +1,4 @@
+-- With the roles that are done, all that take them in are seen; what is seen must be.
 use Rattle.std.proofs.Common.{◌≡◌, ◌-◌}
 use Rattle.tracked.specs.Index.{current}
 use Prim.Native.Nat.{◌^◌}

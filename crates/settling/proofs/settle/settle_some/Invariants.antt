@@ -1,3 +1,4 @@
+-- The sets are right for all but the principals that are left.
 use Rattle.std.proofs.Common.{◌≡◌, length}
 use Rattle.settling.specs.Settle.{Settling}
 use Rattle.model.specs.Policy.{roles}

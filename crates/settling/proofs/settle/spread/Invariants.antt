@@ -1,3 +1,4 @@
+-- The first i sets have the principal, or not, as they are to.
 use Rattle.std.proofs.Common.{◌-◌, ◌≡◌, ◌≤◌, length}
 use Rattle.model.specs.Limits.{role_limit}
 use Prim.Native.Nat.{◌%◌}

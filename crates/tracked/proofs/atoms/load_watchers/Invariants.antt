@@ -1,3 +1,4 @@
+-- The first j roles have their viewers and trusters in the words.
 use Rattle.std.proofs.Common.{◌-◌, ◌≤◌}
 use Rattle.tracked.specs.Live.{Watched}
 use Rattle.tracked.proofs.atoms.load_watchers.Given as goal

@@ -1,3 +1,4 @@
+-- The words of the roles that are not left are put together.
 use Rattle.tracked.specs.Index.{current}
 use Rattle.tracked.proofs.IndexLaws.{Gathering}
 use Rattle.tracked.proofs.index.above.Given as goal

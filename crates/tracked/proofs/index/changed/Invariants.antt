@@ -1,3 +1,4 @@
+-- Those of the set that are not left are compared.
 use Rattle.tracked.proofs.SiftLaws.{Comparing}
 use Rattle.tracked.proofs.index.changed.Given as goal
 

@@ -1,3 +1,4 @@
+-- The words of the set's numbers that are not left have i.
 use Rattle.tracked.proofs.IndexLaws.{Entering}
 use Rattle.tracked.proofs.index.enter.Given as goal
 

@@ -1,3 +1,4 @@
+-- The words hold the first i rows the other way round.
 use Rattle.std.proofs.Common.{◌-◌, ◌≡◌, ◌≤◌}
 use Rattle.model.specs.Policy.{roles}
 use Rattle.tracked.specs.Index.{Loaded}

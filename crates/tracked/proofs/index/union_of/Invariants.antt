@@ -1,3 +1,4 @@
+-- The sets of the roles that are not left are put together.
 use Rattle.shared.specs.Words.{United}
 use Rattle.tracked.specs.Index.{current}
 use Rattle.tracked.proofs.index.union_of.Given as goal

@@ -1,6 +1,4 @@
-use Rattle.std.proofs.Common.{◌-◌, ◌≡◌, ◌*◌, ◌<◌, ◌≤◌, length, take, ℕ, ◌+◌}
-use Rattle.model.specs.Memory.{memory_of}
-use Rattle.turn.specs.Memory.{Kept}
+use Rattle.std.proofs.Common.{◌-◌, ◌≤◌}
 use Rattle.turn.proofs.MemoryLaws.{Filled}
 use lib.ListN.{get_or}
 use Rattle.turn.proofs.memory.copy_words.Given as goal

@@ -1,6 +1,4 @@
-use Rattle.std.proofs.Common.{rules, ◌≡◌, ◌*◌, ◌<◌, ◌≤◌, length, take, ℕ, ◌+◌, ◌-◌, ◌/◌, ◌%◌, Bool, true, false, nat_eq, nat_lt, List, [], ◌∷◌, ◌++◌, slice_index_or, slice_set, bit_and, bit_or, Fits, w8, w32, w64, Bor, MutBor}
-use Rattle.model.specs.Memory.{memory_of}
-use Rattle.turn.specs.Memory.{Kept}
+use Rattle.std.proofs.Common.{rules}
 use Rattle.turn.proofs.MemoryLaws.{loads}
 use Rattle.turn.proofs.memory.load.Goals as goal
 

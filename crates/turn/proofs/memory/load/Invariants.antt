@@ -1,6 +1,4 @@
-use Rattle.std.proofs.Common.{◌-◌, ◌≡◌, ◌*◌, ◌<◌, ◌≤◌, length, take, ℕ, ◌+◌}
-use Rattle.model.specs.Memory.{memory_of}
-use Rattle.turn.specs.Memory.{Kept}
+use Rattle.std.proofs.Common.{◌-◌, ◌≤◌}
 use Rattle.model.specs.Value.{value_at}
 use Rattle.turn.proofs.MemoryLaws.{Filled}
 use Rattle.turn.proofs.memory.load.Given as goal

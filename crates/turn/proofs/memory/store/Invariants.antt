@@ -1,6 +1,4 @@
-use Rattle.std.proofs.Common.{◌-◌, ◌≡◌, ◌*◌, ◌<◌, ◌≤◌, length, take, ℕ, ◌+◌}
-use Rattle.model.specs.Memory.{memory_of}
-use Rattle.turn.specs.Memory.{Kept}
+use Rattle.std.proofs.Common.{◌-◌, ◌≡◌, ◌*◌, ◌≤◌, length}
 use Rattle.model.proofs.Memory.{stored}
 use Rattle.turn.proofs.memory.store.Given as goal
 

@@ -1,8 +1,4 @@
-use Rattle.std.proofs.Common.{rules, ◌≡◌, cond, ◌+◌, ◌*◌, ◌<◌, ◌≤◌, length, ℕ, ◌-◌, ◌/◌, ◌%◌, Bool, true, false, nat_eq, nat_lt, List, [], ◌∷◌, ◌++◌, slice_index_or, slice_set, bit_and, bit_or, Fits, w8, w32, w64, Bor, MutBor}
-use Rattle.model.specs.Limits.{list_limit}
-use Rattle.model.specs.Sets.{with}
-use Rattle.tracked.specs.Live.{atom_words}
-use Rattle.update.specs.Listed.{HeldAt}
+use Rattle.std.proofs.Common.{rules}
 use Rattle.update.proofs.ListedLaws.{notings}
 use Rattle.update.proofs.listed.held.Goals as goal
 

@@ -1,8 +1,5 @@
-use Rattle.std.proofs.Common.{◌-◌, ◌≡◌, cond, ◌+◌, ◌*◌, ◌<◌, ◌≤◌, length, ℕ}
-use Rattle.model.specs.Limits.{list_limit}
-use Rattle.model.specs.Sets.{with}
-use Rattle.tracked.specs.Live.{atom_words}
-use Rattle.update.specs.Listed.{HeldAt}
+-- The bits so far, with those of the queries that are left, are the bits of all.
+use Rattle.std.proofs.Common.{◌-◌, ◌+◌, ◌*◌, ◌≤◌}
 use Rattle.update.proofs.ListedLaws.{Noting}
 use Rattle.update.proofs.listed.held.Given as goal
 

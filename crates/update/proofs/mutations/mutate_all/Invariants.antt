@@ -1,9 +1,5 @@
-use Rattle.std.proofs.Common.{◌-◌, ◌+◌, ◌<◌, ◌≤◌, length, ◌≡◌, ℕ, ◌*◌}
-use Rattle.model.specs.Policy.{roles}
-use Rattle.model.specs.Mutation.{operand_count}
-use Rattle.program.specs.Codes.{model_kind}
-use Rattle.tracked.specs.Index.{Mirrored, member_kind, taken_kind, Made}
-use Rattle.update.specs.Mutations.{MutableOne, Mutable, MutatedOne, Mutated}
+-- The mutations that are left, made of the policy as it is now, give what the whole update gives of the first.
+use Rattle.std.proofs.Common.{◌-◌, ◌<◌, length, ◌≡◌}
 use Rattle.update.proofs.MutationLaws.{Mutating}
 use Rattle.update.proofs.mutations.mutate_all.Given as goal
 
