@@ -1,6 +1,4 @@
-use Rattle.std.proofs.Common.{rules, ◌≡◌, ◌≤◌, length, ℕ, ◌+◌, ◌-◌, ◌*◌, ◌<◌, ◌/◌, ◌%◌, Bool, true, false, nat_eq, nat_lt, List, [], ◌∷◌, ◌++◌, slice_index_or, slice_set, bit_and, bit_or, Fits, w8, w32, w64, Bor, MutBor}
-use Rattle.model.specs.Calls.{ended, run_answer}
-use Rattle.execution.specs.Execution.{Admitted, Rooms}
+use Rattle.std.proofs.Common.{rules}
 use Rattle.execution.proofs.BufferLaws.{copy_large}
 use Rattle.execution.proofs.buffers.run_beside.Goals as goal
 

@@ -1,9 +1,4 @@
-use Rattle.std.proofs.Common.{rules, ◌≡◌, take, ℕ, ◌+◌, ◌-◌, ◌*◌, ◌<◌, ◌≤◌, length, ◌/◌, ◌%◌, Bool, true, false, nat_eq, nat_lt, List, [], ◌∷◌, ◌++◌, slice_index_or, slice_set, bit_and, bit_or, Fits, w8, w32, w64, Bor, MutBor}
-use Rattle.model.specs.Memory.{memory_of}
-use Rattle.model.specs.Machine.{answer_of}
-use Rattle.model.specs.Calls.{ended, run_answer}
-use Rattle.machine.specs.Steps.{ending_of}
-use Rattle.execution.specs.Execution.{Admitted, Loadable, Loaded, Executed, Finishable}
+use Rattle.std.proofs.Common.{rules}
 use Rattle.execution.proofs.ExecuteLaws.{executing}
 use Rattle.execution.proofs.execute.execute.Goals as goal
 
