@@ -2,13 +2,10 @@
 use mathlib.Core.Path.{◌≡◌, sym, ◌∙◌}
 use Prim.Native.Nat.{ℕ, zero, suc, ◌<◌, ◌≤◌}
 use mathlib.Core.List.{List}
-use native.Mathlib.Omega.{arith}
 use lib.ListN.{length}
 use borrow.Author.Tests.{lt-ltb, le-ltb, eq-eqb, ne_eqb}
-use Rattle.model.specs.Limits.{head_bytes}
 use Rattle.model.specs.Policy.{roles, members, takes, Accepted, policy_number}
 use Rattle.model.specs.Meaning.{rounds, column, meanings, meaning, answer, meaning_of}
-use Rattle.model.proofs.Accepted.{accepted_facts}
 use Rattle.model.proofs.Least.{length_steps, column_length}
 
 rounds_length : (t m : List ℕ) → length m ≡ length t → (n : ℕ) → length (rounds t m n) ≡ length t
@@ -23,30 +20,22 @@ meanings_length s =
     let c = column_length (takes s) (roles s) in
     rounds_length (column (takes s) (roles s)) (column (members s) (roles s)) (column_length (members s) (roles s) ∙ sym c) (roles s) ∙ c
 
--- asking for a meaning
-module _ (s : List ℕ) (r k : ℕ) (p : k ≡ policy_number s) where
-  pub asked_refused : (k ≡ 0 → ⊥) → answer k 0 ≡ meaning_of s r
+-- asking for a meaning: k is the policy's number
+module _ (s : List ℕ) (r : ℕ) where
+  pub asked_refused : (k : ℕ) → k ≡ policy_number s → (k ≡ 0 → ⊥) → answer k 0 ≡ meaning_of s r
   unfolding meaning_of
-  asked_refused h = let g : policy_number s ≡ 0 → ⊥ = λ e. h (p ∙ e) in rw p (simp (ne_eqb _ _ g))
+  asked_refused k p h = let g : policy_number s ≡ 0 → ⊥ = λ e. h (p ∙ e) in rw p (simp (ne_eqb _ _ g))
 
-  module _ (z : k ≡ 0) where
+  module _ (p : 0 ≡ policy_number s) where
     pub asked_accepted : Accepted s
-    asked_accepted = sym p ∙ z
+    asked_accepted = sym p
 
-    pub asked_head : head_bytes ≤ length s
-    asked_head = (accepted_facts s asked_accepted).headed
+    pub asked_none : roles s ≤ r → answer 7 0 ≡ meaning_of s r
+    unfolding meaning_of
+    asked_none h = simp (eq-eqb _ _ (sym p), le-ltb _ _ h)
 
-    -- R was read as m, and is wider as n
-    module _ (m n : ℕ) (d : m ≡ roles s) (e : n ≡ m) where
-      pub asked_there : r < n → r < roles s
-      asked_there h = omega arith
+    pub asked_found : r < roles s → (x : ℕ) → x ≡ meaning s r → answer 0 x ≡ meaning_of s r
+    unfolding meaning_of
+    asked_found h x e = rw e (simp (eq-eqb _ _ (sym p), lt-ltb _ _ h))
 
-      pub asked_none : n ≤ r → answer 7 0 ≡ meaning_of s r
-      unfolding meaning_of
-      asked_none h = let l : roles s ≤ r = omega arith in simp (eq-eqb _ _ (sym p ∙ z), le-ltb _ _ l)
-
-      pub asked_found : r < n → (x : ℕ) → x ≡ meaning s r → answer 0 x ≡ meaning_of s r
-      unfolding meaning_of
-      asked_found h x y = let l : r < roles s = omega arith in rw y (simp (eq-eqb _ _ (sym p ∙ z), lt-ltb _ _ l))
-
-pub ruleset asked = (asked_refused, asked_accepted, asked_head, asked_there, asked_none, asked_found)
+pub ruleset asked = (asked_refused, asked_accepted, asked_none, asked_found)

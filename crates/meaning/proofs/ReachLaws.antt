@@ -198,18 +198,9 @@ module _ (s : List ℕ) (n : ℕ) (seen done sets : List ℕ) (x : Searches s n 
   role_inside i l = omega (arith, x.sets_room)
 
   -- the next role down
-  module _ (h : n ≤ length sets) (p : 0 < n) where
-    pub role_before : n - 1 < roles s
-    role_before = omega (arith, x.sets_room)
-
-    pub from_before : Searches s (n - 1 + 1) seen done sets
-    from_before = let e : n - 1 + 1 ≡ n = omega arith in rw e x
-
-    pub put_before : (a b c : ℕ) → Found s (n - 1) a b c → Searches s (n - 1) (set seen (n - 1) a) (set done (n - 1) b) (set sets (n - 1) c)
-    put_before a b c f = put (n - 1) role_before a b c f (n - 1) (λ r k q. omega arith)
-
-  pub from_first : n ≤ 0 → Searches s 0 seen done sets
-  from_first h = let e : 0 ≡ n = omega arith in rw e x
+  module _ (i : ℕ) (l : i < roles s) (h : n ≡ i + 1) where
+    pub put_before : (a b c : ℕ) → Found s i a b c → Searches s i (set seen i a) (set done i b) (set sets i c)
+    put_before a b c f = put i l a b c f i (λ r k q. omega arith)
 
 -- no search yet
 pub none_put : (s seen done sets : List ℕ) → Accepted s → length seen ≡ role_limit → length done ≡ role_limit → length sets ≡ roles s → Searches s (roles s) seen done sets
@@ -221,10 +212,7 @@ none_put s seen done sets ok a b c = record {
   each = λ r k h. absurd (omega arith);
 }
 
-pub none_from : (s seen done sets : List ℕ) → Searches s (roles s) seen done sets → Searches s (length sets) seen done sets
-none_from s seen done sets x = rw x.sets_room x
-
-pub ruleset down_laws = (seen_inside, done_inside, role_before, from_before, put_before, from_first, none_from)
+pub ruleset down_laws = (seen_inside, done_inside, role_inside, put_before)
 
 -- a search from role i, gone on by those from role n on
 module _ (s : List ℕ) (i reached passed bits j : ℕ) (f : Found s i reached passed bits) (m : has (bit_xor reached passed) j ≡ true) where

@@ -1,21 +1,18 @@
 // The meaning of a role: the least sets where each role holds its members and all that the roles it takes hold.
 ghost use Rattle.std.specs.Prelude.{◌≡◌, ◌+◌, ◌^◌, ◌<◌, length};
 ghost use Rattle.model.specs.Policy.{roles, members, takes, Accepted};
-ghost use Rattle.model.specs.Meaning.{meanings, meaning, answer, meaning_of};
+ghost use Rattle.model.specs.Meaning.{meanings, meaning, meaning_of};
 ghost use Rattle.shared.specs.Words.{United};
+ghost use Rattle.meaning.specs.Answers.{meaning_answer};
 ghost use Rattle.meaning.specs.Reach.{Found, Searches};
 
 use policy::{check, rows};
-use shared::{bytes, limit, number, sets};
-
-// What asking for a meaning gives: document 01's number, and the meaning's bits, 0 at any refusal.
-#[derive(Clone, Copy)]
-pub struct Meaning {
-    pub number: u32,
-    pub bits: u32,
-}
+use shared::refusal::Refusal;
+use shared::{limit, sets};
 
 // How far the search from a role has come: the roles that it has seen, those of them that it is done with, and their bits.
+// Kept: the searches of all roles stand in three arrays. Tried as one array of this struct: the sets of 64 roles took 60 to 100 ns
+// longer, of some 180 to 370.
 #[derive(Clone, Copy)]
 struct Search {
     seen: u64,
@@ -71,33 +68,30 @@ fn with_all(policy: &[u8], i: usize, seen: &[u64], done: &[u64], sets: &[u32]) -
 }
 
 // The searches from the last role down, each gone on by those before it: none has a role above its own left.
+#[tactic(auto, using(crate::proofs::ReachLaws::down_laws))]
 fn look_above(policy: &[u8], seen: &mut [u64], done: &mut [u64], sets: &mut [u32])
     requires { (Searches policy.now (roles policy.now) seen.old done.old sets.old) × Accepted policy.now }
     ensures { Searches policy.now 0 seen.new done.new sets.new }
 {
-    let mut i = sets.len();
-    while 0 < i {
-        let row = i - 1;
+    for row in (0..sets.len()).rev() {
         let far = with_above(policy, row, seen, done, sets);
         seen[row] = far.seen;
         done[row] = far.done;
         sets[row] = far.bits;
-        i = row;
     }
 }
 
 // Each search from the first role's up goes on until nothing is left.
+#[tactic(auto, using(crate::proofs::ReachLaws::told_laws))]
 fn look_on(policy: &[u8], seen: &mut [u64], done: &mut [u64], sets: &mut [u32])
     requires { Searches policy.now 0 seen.old done.old sets.old }
     ensures { sets.new ≡ meanings policy.now }
 {
-    let mut i = 0;
-    while i < sets.len() {
+    for i in 0..sets.len() {
         let far = with_all(policy, i, seen, done, sets);
         seen[i] = far.seen;
         done[i] = far.done;
         sets[i] = far.bits;
-        i += 1;
     }
 }
 
@@ -121,6 +115,7 @@ pub fn all_meanings(policy: &[u8], sets: &mut [u32])
 }
 
 // Adds what some roles take in to the roles that were seen, and their members to the bits.
+#[tactic(auto, using(crate::proofs::ReachLaws::row_laws))]
 fn add_rows(policy: &[u8], some: u64, seen: &mut u64, bits: &mut u32)
     requires { (Accepted policy.now) × (some < 2 ^ roles policy.now) }
     ensures taken { United (takes policy.now) some 0 seen.old seen.new }
@@ -154,22 +149,13 @@ fn least_set(policy: &[u8], role: usize) -> u32
 }
 
 // The meaning of a role under a policy: any bytes, any role number.
-pub fn meaning_of(policy: &[u8], role: u32) -> Meaning
-    ensures { answer result.number result.bits ≡ meaning_of policy.now role }
+#[tactic(auto, using(crate::proofs::MeaningLaws::asked))]
+pub fn meaning_of(policy: &[u8], role: u32) -> Result<u32, Refusal>
+    ensures { meaning_answer result ≡ meaning_of policy.now role }
 {
-    let number = check::policy_number(policy);
-    if number != number::ACCEPTED {
-        return Meaning { number, bits: 0 };
+    check::check_policy(policy)?;
+    if u32::from(rows::roles_of(policy)) <= role {
+        return Err(Refusal::NoSuchRole);
     }
-    let roles = bytes::wide(rows::roles_of(policy));
-    if roles <= role {
-        return Meaning {
-            number: number::NO_SUCH_ROLE,
-            bits: 0,
-        };
-    }
-    Meaning {
-        number: number::ACCEPTED,
-        bits: least_set(policy, role as usize),
-    }
+    Ok(least_set(policy, role as usize))
 }

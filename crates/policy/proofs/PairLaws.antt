@@ -18,7 +18,7 @@ use Rattle.model.proofs.Below.{last_or}
 use Rattle.model.proofs.Number.{unless_zero, unless_or, zero_below, one_number}
 use Rattle.model.proofs.Sets.{has_zero, has_with_same, has_with, with_has}
 use Rattle.model.proofs.Accepted.{zero_pair}
-use Rattle.policy.specs.Pairs.{pair, marked, mark, Seen, SeenAfter}
+use Rattle.policy.specs.Pairs.{pair, marked, mark, Seen}
 use Rattle.shared.specs.Words.{single}
 use Rattle.shared.proofs.SetLaws.{single_is}
 use Rattle.policy.proofs.RowLaws.{principals_few}
@@ -123,23 +123,7 @@ module _ (s t : List ℕ) (i c : ℕ) (seen : Seen s t i) (below : owner s i < p
 
 pub ruleset pair_laws = (pair_room, pair_found, pair_new, seen_next)
 
--- a row that is refused leaves nothing to say of the marks; one that is accepted has its pair among them
-module _ (s t : List ℕ) (i k : ℕ) where
-  pub seen_refused : (k ≡ 0 → ⊥) → SeenAfter k s t i
-  unfolding SeenAfter
-  seen_refused h z = absurd (h z)
-
-  pub seen_marked : Seen s t (i + 1) → SeenAfter k s t i
-  unfolding SeenAfter
-  seen_marked h z = h
-
-  pub seen_after : SeenAfter k s t i → k ≡ 0 → Seen s t (i + 1)
-  unfolding SeenAfter
-  seen_after h z = h z
-
 -- a row whose principals there are has an owner that there is
-pub owner_fits : (s : List ℕ) (i k : ℕ) → k ≡ principal_number s i → k ≡ 0 → owner s i < principals s
+pub owner_fits : (s : List ℕ) (i : ℕ) → 0 ≡ principal_number s i → owner s i < principals s
 unfolding principal_number
-owner_fits s i k e z = ltb-true (owner s i) (principals s) (unless_zero (ltb (owner s i) (principals s)) _ _ (sym e ∙ z)).0
-
-pub ruleset seen_laws = (seen_refused, seen_marked, seen_after, owner_fits)
+owner_fits s i e = ltb-true (owner s i) (principals s) (unless_zero (ltb (owner s i) (principals s)) _ _ (sym e)).0

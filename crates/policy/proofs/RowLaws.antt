@@ -6,7 +6,7 @@ use mathlib.Core.List.{List}
 use mathlib.Core.Bool.{Bool, true, false}
 use lib.Dec.{eqb}
 use lib.ListN.{length}
-use borrow.Author.Tests.{eq-eqb, ne_eqb, not-true, not-false}
+use borrow.Author.Tests.{eq-eqb, ne_eqb}
 use Rattle.model.specs.Limits.{head_bytes, field_bytes, principal_limit}
 use Rattle.model.specs.Sets.{has}
 use Rattle.model.specs.Bytes.{byte, word, put, starts_with}
@@ -105,14 +105,14 @@ module _ (s : List ℕ) (i j v w : ℕ) (q : v ≡ viewers s i) (e : w ≡ viewe
 
 pub ruleset take_laws = (viewers_differ, trusters_decide)
 
--- whether row i may have principal x as a member; v and t are its viewers and trusters
-module _ (s : List ℕ) (i x v : ℕ) (a : Bool) (d : a ≡ has v x) (q : v ≡ viewers s i) where
-  pub no_viewer : a ≡ false → false ≡ may_hold s i x
+-- whether row i may have principal x as a member: its viewers decide, and then its trusters
+module _ (s : List ℕ) (i x : ℕ) where
+  pub no_viewer : has (viewers s i) x ≡ false → false ≡ may_hold s i x
   unfolding may_hold
-  no_viewer f = let g : has (viewers s i) x ≡ false = rw (← q) (sym d ∙ f) in simp g
+  no_viewer f = simp f
 
-  pub truster_decides : a ≡ true → (t : ℕ) (b : Bool) → b ≡ has t x → t ≡ trusters s i → b ≡ may_hold s i x
+  pub truster_decides : has (viewers s i) x ≡ true → (b : Bool) → b ≡ has (trusters s i) x → b ≡ may_hold s i x
   unfolding may_hold
-  truster_decides f t b e y = let g : has (viewers s i) x ≡ true = rw (← q) (sym d ∙ f) in simp g (rw y at e)
+  truster_decides f b e = simp f e
 
-pub ruleset hold_laws = (no_viewer, truster_decides, not-true, not-false)
+pub ruleset hold_laws = (no_viewer, truster_decides)

@@ -20,7 +20,3 @@ pub record Seen (s t : List ℕ) (i : ℕ) : Type 0 where
   pub room : 256 * principals s ≤ 64 * length t
   pub marks : (j : ℕ) → j < i → marked t (pair s j) ≡ true
   pub marks_of : (c : ℕ) → marked t c ≡ true → (j : ℕ) × (j < i) × (name s j < 256) × (pair s j ≡ c)
-
--- after a row that was accepted its pair is marked too
-unfoldable pub SeenAfter : ℕ → List ℕ → List ℕ → ℕ → Type 0
-SeenAfter number s t i = number ≡ 0 → Seen s t (i + 1)

@@ -2,10 +2,12 @@
 ghost use Rattle.std.specs.Prelude.{◌≡◌, ◌+◌, ◌*◌, ◌<◌, length};
 ghost use Rattle.model.specs.Number.{first_below};
 ghost use Rattle.model.specs.Policy.{HasRow, principals, owner, name, pair_number};
+ghost use Rattle.shared.specs.Refusals.{outcome_number};
 ghost use Rattle.policy.specs.Pairs.{pair, marked, mark, Seen};
 
 use super::rows;
-use shared::{bytes, number, sets};
+use shared::refusal::Refusal;
+use shared::sets;
 
 // 64 bits a word, for 32 owners of 256 names each.
 pub const WORDS: usize = 128;
@@ -21,12 +23,13 @@ fn pair_of(policy: &[u8], i: usize) -> usize
     ensures same { result ≡ pair policy.now i }
     ensures small { name policy.now i < 256 }
 {
-    let owner = bytes::wide(rows::owner_of(policy, i)) as usize;
-    let name = bytes::wide(rows::name_of(policy, i)) as usize;
+    let owner = usize::from(rows::owner_of(policy, i));
+    let name = usize::from(rows::name_of(policy, i));
     owner * 256 + name
 }
 
 // Whether a number is marked.
+#[tactic(auto, using(crate::proofs::PairLaws::marked_is))]
 fn is_marked(words: &[u64], c: usize) -> bool
     requires { c < 64 * length words.now }
     ensures { result ≡ marked words.now c }
@@ -35,6 +38,7 @@ fn is_marked(words: &[u64], c: usize) -> bool
 }
 
 // Marks a number.
+#[tactic(auto, using(crate::proofs::PairLaws::mark_is))]
 fn set_mark(words: &mut [u64], c: usize)
     requires { c < 64 * length words.old }
     ensures { words.new ≡ mark words.old c }
@@ -43,16 +47,17 @@ fn set_mark(words: &mut [u64], c: usize)
 }
 
 // 5: no earlier row has the owner and name of row i, which are marked now.
-pub fn pairs_number(policy: &[u8], i: usize, seen: &mut [u64]) -> u32
+#[tactic(auto, using(crate::proofs::PairLaws::pair_laws, crate::proofs::PairLaws::length_mark))]
+pub fn check_pair(policy: &[u8], i: usize, seen: &mut [u64]) -> Result<(), Refusal>
     requires { (HasRow policy.now i) × (owner policy.now i < principals policy.now) × Seen policy.now seen.old i }
-    ensures number { result ≡ first_below (pair_number policy.now i) i }
+    ensures number { outcome_number result ≡ first_below (pair_number policy.now i) i }
     ensures now_seen { Seen policy.now seen.new (i + 1) }
 {
     let pair = pair_of(policy, i);
     let before = is_marked(seen, pair);
     set_mark(seen, pair);
     if before {
-        return number::ROW_OWNER;
+        return Err(Refusal::RowOwner);
     }
-    number::ACCEPTED
+    Ok(())
 }

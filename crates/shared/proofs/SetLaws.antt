@@ -1,17 +1,17 @@
 -- A law for each return of sets.rt: past bit 63 a word has no member, and every word is below 2 ^ 64.
 use mathlib.Core.Path.{◌≡◌, refl, sym, ◌∙◌}
 use Prim.Native.Nat.{ℕ, zero, suc, ◌-◌, ◌*◌, ◌/◌, ◌%◌, ◌^◌, ◌<◌, ◌≤◌}
-use mathlib.Core.Bool.{Bool, true, false, true≢false}
+use mathlib.Core.Bool.{true, false, true≢false}
 use native.Mathlib.Omega.{arith}
 use native.Mathlib.Nat.{one-mul, lt_of_lt_of_le, div-eq_of_lt, div-eq_of_lt-le, div-one, pow-suc}
 use native.Mathlib.Decide.{dec_lt}
 use lib.Dec.{ltb}
 use lib.Pow.{shl_exact, pow_mono, pow_pos}
-use lib.Bits.{bit_and, bit_or, and_step, and_self}
+use lib.Bits.{bit_and, and_step, and_self}
 use lib.Count.{count_trailing_zeros, count_leading_zeros, leading_top, under}
 use borrow.Author.Tests.{lt-ltb, le-ltb, eq-eqb}
-use Rattle.model.specs.Sets.{has, with, without}
-use Rattle.model.proofs.Sets.{half_has, has_below}
+use Rattle.model.specs.Sets.{has, without}
+use Rattle.model.proofs.Sets.{half_has}
 use Rattle.shared.specs.Words.{single}
 
 -- one shifted within 64 bits is the power
@@ -65,11 +65,8 @@ low_off (suc k) n h g = go (n % 2) refl (λ l. low_off k (n / 2) l (omega (arith
         let even : (n - 1) % 2 ≡ 0 = omega arith in
         rw (and_step n (n - 1), half, even, and_self (n / 2)) (omega arith)
 
-pub lowest_in : (n : ℕ) → 0 < n → n < 2 ^ 64 → has n (count_trailing_zeros 64 n) ≡ true
-lowest_in = low_has 64
-
-pub lowest_small : (n : ℕ) → 0 < n → n < 2 ^ 64 → count_trailing_zeros 64 n < 64
-lowest_small n h g = has_below 64 n (count_trailing_zeros 64 n) g (lowest_in n h g)
+pub lowest_in : (n j : ℕ) → 0 < n → n < 2 ^ 64 → j ≡ count_trailing_zeros 64 n → has n j ≡ true
+lowest_in n j h g e = rw e (low_has 64 n h g)
 
 -- the highest
 module _ (a : ℕ) (p : 0 < a) (l : a < 2 ^ 64) where
@@ -82,6 +79,8 @@ module _ (a : ℕ) (p : 0 < a) (l : a < 2 ^ 64) where
       let k : 63 - count_leading_zeros 64 a ≡ j = omega arith in
       let q : a / 2 ^ j ≡ 1 = div-eq_of_lt-le (2 ^ j) (omega arith) (omega (arith, pow-suc 2 j)) in
       rw (k, q)
+
+pub ruleset highest = (highest_room, highest_in)
 
 pub lowest_out : (n : ℕ) → 0 < n → n < 2 ^ 64 → bit_and n (n - 1) ≡ without n (count_trailing_zeros 64 n)
 lowest_out n h g = low_off 64 n h g ∙ simp (low_has 64 n h g)
@@ -100,23 +99,6 @@ held_power a i h = go (dec_lt a (2 ^ i))
     go : Dec (a < 2 ^ i) → 2 ^ i ≤ a
     go (yes l) = absurd (let e : false ≡ true = (rw (div-eq_of_lt l) at h) in true≢false (sym e))
     go (no k) = omega arith
-
--- one number more or less in a set
-module _ (a i : ℕ) (l : i < 64) where
-  pub with_one : bit_or a (1 * 2 ^ i % 2 ^ 64) ≡ with a i
-  with_one = rw (shifted i l)
-
-  module _ (b : Bool) (e : b ≡ has a i) where
-    pub one_below : b ≡ true → 1 * 2 ^ i % 2 ^ 64 ≤ a
-    one_below h = rw (shifted i l) (held_power a i (sym e ∙ h))
-
-    pub without_one : b ≡ true → a - 1 * 2 ^ i % 2 ^ 64 ≡ without a i
-    without_one h = let k : has a i ≡ true = sym e ∙ h in rw (shifted i l) (simp k)
-
-    pub without_none : b ≡ false → a ≡ without a i
-    without_none h = let k : has a i ≡ false = sym e ∙ h in simp k
-
-pub ruleset ones = (with_one, one_below, without_one, without_none)
 
 pub ruleset singles = (single_low, single_high)
 

@@ -1,2 +1,4 @@
 pub mod Words
+pub mod Sides
 pub mod Marks
+pub mod Refusals

@@ -1,19 +1,8 @@
-// The numbers that a call returns, in the order of document 01's table.
+// The numbers that a call returns, in the order of document 01's table. Of a policy's only the first stands here: the others are in
+// `refusal` alone, where all have a name.
 pub const ACCEPTED: u32 = 0;
 
 pub const POLICY_LENGTH: u32 = 1;
-
-pub const POLICY_MARK: u32 = 2;
-
-pub const POLICY_RANGE: u32 = 3;
-
-pub const ROW_PRINCIPAL: u32 = 4;
-
-pub const ROW_OWNER: u32 = 5;
-
-pub const ROW_GRANTS: u32 = 6;
-
-pub const NO_SUCH_ROLE: u32 = 7;
 
 pub const PROGRAM_LENGTH: u32 = 10;
 

@@ -2,6 +2,5 @@ use Rattle.std.proofs.Common.{rules}
 use Rattle.meaning.proofs.ReachLaws.{none_put}
 use Rattle.meaning.proofs.least.all_meanings.Goals as goal
 
--- src/least.rt:120:5
 pub least_sets-requires : goal.least_sets-requires
 least_sets-requires c = search (rules, none_put)

@@ -2,22 +2,17 @@ use Rattle.std.proofs.Common.{rules}
 use Rattle.meaning.proofs.ReachLaws.{set_laws}
 use Rattle.meaning.proofs.least.least_set.Goals as goal
 
--- src/least.rt:145:20
 pub with-seen-requires : goal.with-seen-requires
 with-seen-requires c = search (rules, set_laws)
 
--- src/least.rt:148:5
 pub loop-done-init : goal.loop-done-init
 loop-done-init c = search (rules, set_laws)
 
--- src/least.rt:151:9
 pub add_rows-requires : goal.add_rows-requires
 add_rows-requires c = search (rules, set_laws)
 
--- src/least.rt:148:5
 pub loop-done-preserved : goal.loop-done-preserved
 loop-done-preserved c = search (rules, set_laws)
 
--- src/least.rt:141:1
 pub returns : goal.returns
 returns c = search (rules, set_laws)

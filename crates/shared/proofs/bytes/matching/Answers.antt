@@ -1,19 +1,11 @@
-use Rattle.std.proofs.Common.{rules}
-use Rattle.shared.proofs.ByteLaws.{mark_done, mark_other, mark_same, mark_short}
+use Rattle.std.proofs.Common.{rules, tests, eqb}
+use Rattle.std.proofs.lemmas.Iterator.{YieldsList-from_slice, YieldsList-from_zip}
+use Rattle.std.proofs.lemmas.Iterator.Search.{YieldsList-from_take_while}
+use Rattle.std.proofs.lemmas.Iterator.Consumers.{count_from_yields_List}
+use Rattle.shared.proofs.ByteLaws.{mark_prefix}
 use Rattle.shared.proofs.bytes.matching.Goals as goal
 
--- src/bytes.rt:76:13
-pub returns-then-s-i : goal.returns-then-s-i
-returns-then-s-i c = first_of (search (rules, mark_short), search (rules, mark_other), search (rules, mark_same), search (rules, mark_done))
-
--- src/bytes.rt:79:13
-pub returns-then-s-i-2 : goal.returns-then-s-i-2
-returns-then-s-i-2 c = first_of (search (rules, mark_short), search (rules, mark_other), search (rules, mark_same), search (rules, mark_done))
-
--- src/bytes.rt:74:5
-pub loop-i-preserved : goal.loop-i-preserved
-loop-i-preserved c = first_of (search (rules, mark_short), search (rules, mark_other), search (rules, mark_same), search (rules, mark_done))
-
--- src/bytes.rt:70:1
 pub returns : goal.returns
-returns c = first_of (search (rules, mark_short), search (rules, mark_other), search (rules, mark_same), search (rules, mark_done))
+returns c = mark_prefix c.args.s.now c.args.mark.now _
+    (count_from_yields_List c.take_while.result _ c.count.ensures.ran
+    (YieldsList-from_take_while _ (λ p. eqb p.0 p.1) (YieldsList-from_zip (YieldsList-from_slice c.args.s.now cc) (YieldsList-from_slice c.args.mark.now cc)) c.take_while.ensures.closure (search rules) (λ x b q k. search (rules, tests))))

@@ -1,7 +1,0 @@
-use Rattle.std.proofs.Common.{rules}
-use Rattle.shared.proofs.ByteLaws.{words}
-use Rattle.shared.proofs.bytes.word64.Goals as goal
-
--- src/bytes.rt:33:1
-pub returns : goal.returns
-returns c = search (rules, words)
