@@ -1,4 +1,5 @@
 -- A law for each return of expressions.rt: the definition goes by the code, with one less of depth for what it holds.
+use Rattle.std.proofs.Common.{Result, Ok, Err}
 use mathlib.Core.Path.{◌≡◌, refl, ◌∙◌}
 use Prim.Native.Nat.{ℕ, zero, suc, ◌+◌, ◌-◌, ◌<◌, ◌≤◌}
 use mathlib.Core.List.{List}
@@ -16,28 +17,27 @@ use Rattle.program.specs.declared.codes.Operator.{Operator}
 use Rattle.program.specs.declared.codes.Operator.TheVariants.{Sum, Difference, Product, Quotient, Less, Equal}
 use Rattle.program.specs.declared.codes.Expression.{Expression}
 use Rattle.program.specs.declared.codes.Expression.TheVariants.{Constant, Variable, Binary}
-use Rattle.program.specs.declared.codes.ExpressionOf.{ExpressionOf}
-use Rattle.program.specs.declared.codes.ExpressionOf.TheVariants.{Is, No}
-use Rattle.program.specs.Answer.{stopped, place_limit, told, Within, end_of}
+use Rattle.program.specs.Answer.{stopped, place_limit, told, end_of}
 use Rattle.program.specs.Codes.{expression_of, model_operator}
 use Rattle.program.proofs.CodeLaws.{through}
 use Rattle.program.proofs.AnswerLaws.{position_told, tells, then_at, then_refused, then_last, byte_there, byte_missing}
+use Rattle.program.specs.declared.codes.UnknownCode.{UnknownCode}
 
 constant_at : List ℕ → ℕ → Reading Expr
 constant_at s next = cond (leb (next + 4) (length s)) (got (constant (word s next 4)) (next + 4)) (bad program_length (length s))
 
 module _ (s : List ℕ) (vars : ℕ) (sub : ℕ → Reading Expr) (at next : ℕ) where
-  coded : ExpressionOf → Reading Expr
-  coded (Is Constant) = constant_at s next
-  coded (Is Variable) = and_then (read_below s vars next) (λ x end. got (variable x) end)
-  coded (Is (Binary o)) = binary_at sub (model_operator o) next
-  coded No = bad program_code at
+  coded : (Result Expression UnknownCode) → Reading Expr
+  coded (Ok Constant) = constant_at s next
+  coded (Ok Variable) = and_then (read_below s vars next) (λ x end. got (variable x) end)
+  coded (Ok (Binary o)) = binary_at sub (model_operator o) next
+  coded (Err _) = bad program_code at
 
   by_code : (x : ℕ) → expr_at s vars sub at x next ≡ coded (expression_of x)
   unfolding expr_at expression_of coded constant_at
   by_code x =
-      through coded (eqb x 0) (Is Constant) (through coded (eqb x 1) (Is Variable) (through coded (eqb x 2) (Is (Binary Sum)) (through coded (eqb x 3) (Is (Binary Difference))
-      (through coded (eqb x 4) (Is (Binary Product)) (through coded (eqb x 5) (Is (Binary Quotient)) (through coded (eqb x 6) (Is (Binary Less)) (through coded (eqb x 7) (Is (Binary Equal)) refl)))))))
+      through coded (eqb x 0) (Ok Constant) (through coded (eqb x 1) (Ok Variable) (through coded (eqb x 2) (Ok (Binary Sum)) (through coded (eqb x 3) (Ok (Binary Difference))
+      (through coded (eqb x 4) (Ok (Binary Product)) (through coded (eqb x 5) (Ok (Binary Quotient)) (through coded (eqb x 6) (Ok (Binary Less)) (through coded (eqb x 7) (Ok (Binary Equal)) refl)))))))
 
 pub expr_deep : (s : List ℕ) (v d at : ℕ) → d ≡ 0 → stopped 14 at ≡ end_of (read_expr s v d at)
 unfolding read_expr end_of
@@ -52,22 +52,22 @@ module _ (s : List ℕ) (v d at : ℕ) (f : d ≡ 0 → ⊥) where
   pub expr_missing : length s ≤ at → stopped 10 (length s) ≡ end_of (read_expr s v d at)
   expr_missing h = rw (step s v d at f) (byte_missing s at _ h)
 
-  module _ (l : at < length s) (k : ExpressionOf) (e : k ≡ expression_of (byte s at)) where
+  module _ (l : at < length s) (k : (Result Expression UnknownCode)) (e : k ≡ expression_of (byte s at)) where
     here : read_expr s v d at ≡ coded s v (read_expr s v (d - 1)) at (at + 1) k
     here = step s v d at f ∙ byte_there s at _ l ∙ by_code s v (read_expr s v (d - 1)) at (at + 1) (byte s at) ∙ rw e
 
-    pub expr_unknown : k ≡ No → stopped 12 at ≡ end_of (read_expr s v d at)
+    pub expr_unknown : k ≡ (Err (record {})) → stopped 12 at ≡ end_of (read_expr s v d at)
     unfolding coded end_of
     expr_unknown h = rw (here, h)
 
-    module _ (x : Expression) (h : k ≡ Is x) where
+    module _ (x : Expression) (h : k ≡ Ok x) where
       pub constant_missing : x ≡ Constant → length s - (at + 1) < 4 → stopped 10 (length s) ≡ end_of (read_expr s v d at)
       unfolding coded constant_at end_of
       constant_missing g i = let j : length s < at + 1 + 4 = omega arith in rw (here, h, g) (simp (lt-leb _ _ j))
 
-      pub constant_read : Within s at → x ≡ Constant → 4 ≤ length s - (at + 1) → told (at + 1 + 4) ≡ end_of (read_expr s v d at)
+      pub constant_read : length s < place_limit → x ≡ Constant → 4 ≤ length s - (at + 1) → told (at + 1 + 4) ≡ end_of (read_expr s v d at)
       unfolding coded constant_at end_of
-      constant_read w g i =
+      constant_read short g i =
           let j : at + 1 + 4 ≤ length s = omega arith in
           position_told (at + 1 + 4) (omega arith) ∙ (rw (here, h, g) (simp (le-leb _ _ j)))
 

@@ -19,7 +19,7 @@ use Rattle.model.specs.Program.{bad, and_then, read_below, read_mark, read_many,
 use Rattle.model.proofs.Reading.{one_or_two}
 use Rattle.shared.specs.Marks.{matching}
 use Rattle.program.specs.Answer.{Reached, reached, stopped, place_limit, refusal, told, end_of, read_variables}
-use Rattle.program.proofs.AnswerLaws.{position_told, tell_refusal, answer_told, tells, then_at, then_refused, then_stopped, byte_there, byte_missing}
+use Rattle.program.proofs.AnswerLaws.{position_told, tell_refusal, position_low, answer_told, tells, then_reached, then_at, then_refused, then_stopped, byte_there, byte_missing}
 use Rattle.program.proofs.AtomLaws.{below_missing, below_large, below_read}
 
 -- a mark, of which the bytes match the first k: read whole, or stopped at the first byte that is missing or differs
@@ -128,12 +128,12 @@ module _ (s : List ℕ) (P R : ℕ) where
   program_long h = simp (lt-leb _ _ h)
 
   module _ (l : length s ≤ program_bytes) (a : ℕ) (e : told a ≡ end_of (read_mark s (program_head (version s)) 0)) where
-    pub program_mark_lem : place_limit ≤ a → told a ≡ end_of (read_program s P R)
+    pub program_mark_lem : (n place : ℕ) → stopped n place ≡ told a → stopped n place ≡ end_of (read_program s P R)
     unfolding read_program
-    program_mark_lem h = simp (le-leb _ _ l) (then_refused (read_mark s (program_head (version s)) 0) _ e h)
+    program_mark_lem n place h = simp (le-leb _ _ l) (then_stopped (read_mark s (program_head (version s)) 0) _ (h ∙ e))
 
-    pub program_rest : (r : ℕ) → a < place_limit → told r ≡ end_of (read_variables s P R a) → told r ≡ end_of (read_program s P R)
+    pub program_rest : (next r : ℕ) → reached next ≡ told a → told r ≡ end_of (read_variables s P R next) → told r ≡ end_of (read_program s P R)
     unfolding read_program read_variables
-    program_rest r h g = simp (le-leb _ _ l) (then_at (read_mark s (program_head (version s)) 0) _ e h (λ x. g))
+    program_rest next r h g = simp (le-leb _ _ l) (then_reached (read_mark s (program_head (version s)) 0) _ (h ∙ e) (λ x. g))
 
-pub ruleset programs = (program_long, program_mark_lem, program_rest, answer_told)
+pub ruleset programs = (program_long, program_mark_lem, program_rest, position_low, answer_told)

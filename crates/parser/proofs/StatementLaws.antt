@@ -1,4 +1,5 @@
 -- A law for each return of statements.rt: the definition goes by the code, with one less of depth for what it holds.
+use Rattle.std.proofs.Common.{Result, Ok, Err}
 use mathlib.Core.Path.{◌≡◌, refl, sym, ◌∙◌}
 use Prim.Native.Nat.{ℕ, zero, suc, ◌+◌, ◌-◌, ◌<◌, ◌≤◌}
 use mathlib.Core.List.{List}
@@ -15,14 +16,13 @@ use Rattle.model.specs.Syntax.{Stmt, skip, if, while, query, transaction}
 use Rattle.model.specs.Program.{Read as Reading, got, bad, and_then, read_byte, read_below, read_many, read_expr, read_query, read_mutation, block_of, assign_at, block_at, if_at, while_at, query_at, update_at, transaction_at, stmt_at, read_stmt}
 use Rattle.program.specs.declared.codes.Statement.{Statement}
 use Rattle.program.specs.declared.codes.Statement.TheVariants.{Skip, Assign, Block, If, While, Query, Update, Transaction}
-use Rattle.program.specs.declared.codes.StatementOf.{StatementOf}
-use Rattle.program.specs.declared.codes.StatementOf.TheVariants.{Is, No}
 use Rattle.program.specs.Answer.{Reached, reached, stopped, place_limit, told, end_of, read_assign, read_update, FindsCode}
 use Rattle.program.specs.Codes.{statement_of}
 use Rattle.program.proofs.CodeLaws.{through}
 use Rattle.program.specs.Skips.{Skips}
 use Rattle.program.proofs.SkipLaws.{skips_low, over_row}
 use Rattle.program.proofs.AnswerLaws.{position_told, tells, then_at, then_refused, then_last, then_end, then_same, pick_same, byte_there, byte_missing, many, many_next}
+use Rattle.program.specs.declared.codes.UnknownCode.{UnknownCode}
 
 -- an assignment
 module _ (s : List ℕ) (v at a : ℕ) (e : told a ≡ end_of (read_below s v at)) where
@@ -157,22 +157,22 @@ module _ (s : List ℕ) (P R v : ℕ) (sub : ℕ → Reading Stmt) where
 
   -- a statement, by its code
   module _ (at next : ℕ) where
-    coded : StatementOf → Reading Stmt
-    coded (Is Skip) = got skip next
-    coded (Is Assign) = assign_at s P R v sub at next
-    coded (Is Block) = block_at s P R v sub next
-    coded (Is If) = if_at s P R v sub next
-    coded (Is While) = while_at s P R v sub next
-    coded (Is Query) = query_at s P R v sub at next
-    coded (Is Update) = update_at s P R v sub at next
-    coded (Is Transaction) = transaction_at s P R v sub at next
-    coded No = bad program_code at
+    coded : (Result Statement UnknownCode) → Reading Stmt
+    coded (Ok Skip) = got skip next
+    coded (Ok Assign) = assign_at s P R v sub at next
+    coded (Ok Block) = block_at s P R v sub next
+    coded (Ok If) = if_at s P R v sub next
+    coded (Ok While) = while_at s P R v sub next
+    coded (Ok Query) = query_at s P R v sub at next
+    coded (Ok Update) = update_at s P R v sub at next
+    coded (Ok Transaction) = transaction_at s P R v sub at next
+    coded (Err _) = bad program_code at
 
     by_code : (x : ℕ) → stmt_at s P R v sub at x next ≡ coded (statement_of x)
     unfolding stmt_at statement_of coded
     by_code x =
-        through coded (eqb x 0) (Is Skip) (through coded (eqb x 1) (Is Assign) (through coded (eqb x 2) (Is Block) (through coded (eqb x 3) (Is If)
-        (through coded (eqb x 4) (Is While) (through coded (eqb x 5) (Is Query) (through coded (eqb x 6) (Is Update) (through coded (eqb x 7) (Is Transaction) refl)))))))
+        through coded (eqb x 0) (Ok Skip) (through coded (eqb x 1) (Ok Assign) (through coded (eqb x 2) (Ok Block) (through coded (eqb x 3) (Ok If)
+        (through coded (eqb x 4) (Ok While) (through coded (eqb x 5) (Ok Query) (through coded (eqb x 6) (Ok Update) (through coded (eqb x 7) (Ok Transaction) refl)))))))
 
 pub ruleset blocks = (block_missing, block_begins, many)
 
@@ -197,15 +197,15 @@ module _ (s : List ℕ) (P R v d at : ℕ) (f : d ≡ 0 → ⊥) where
   pub stmt_missing : length s ≤ at → stopped 10 (length s) ≡ end_of (read_stmt s P R v d at)
   stmt_missing h = rw (step s P R v d at f) (byte_missing s at _ h)
 
-  module _ (l : at < length s) (k : StatementOf) (e : k ≡ statement_of (byte s at)) where
+  module _ (l : at < length s) (k : (Result Statement UnknownCode)) (e : k ≡ statement_of (byte s at)) where
     here : read_stmt s P R v d at ≡ coded s P R v (read_stmt s P R v (d - 1)) at (at + 1) k
     here = step s P R v d at f ∙ byte_there s at _ l ∙ by_code s P R v (read_stmt s P R v (d - 1)) at (at + 1) (byte s at) ∙ rw e
 
-    pub stmt_unknown : k ≡ No → stopped 12 at ≡ end_of (read_stmt s P R v d at)
+    pub stmt_unknown : k ≡ (Err (record {})) → stopped 12 at ≡ end_of (read_stmt s P R v d at)
     unfolding coded end_of
     stmt_unknown h = rw (here, h)
 
-    module _ (x : Statement) (h : k ≡ Is x) where
+    module _ (x : Statement) (h : k ≡ Ok x) where
       pub stmt_skip : x ≡ Skip → reached (at + 1) ≡ end_of (read_stmt s P R v d at)
       unfolding coded end_of
       stmt_skip g = rw (here, h, g)
@@ -255,7 +255,7 @@ skips_passed : (s : List ℕ) (P R v d at i : ℕ) (r : Reached) → (d ≡ 0 �
 unfolding statement_of
 skips_passed s P R v d at i r f n row e few =
     over_row s (λ left next. end_of (read_many (read_stmt s P R v d) left next) ≡ r)
-    (λ left next h some l z. many_next (read_stmt s P R v d) left next (next + 1) r h some (stmt_skip s P R v d next f l (Is Skip) (rw z) Skip refl refl))
+    (λ left next h some l z. many_next (read_stmt s P R v d) left next (next + 1) r h some (stmt_skip s P R v d next f l (Ok Skip) (rw z) Skip refl refl))
     at n i row e few
 
 -- a code that is found
@@ -274,7 +274,7 @@ module _ (s : List ℕ) (d at : ℕ) where
     unfolding FindsCode statement_of
     skip_passed P R v i r e l =
         let k = f h in
-        many_next (read_stmt s P R v d) i at (at + 1) r e l (stmt_skip s P R v d at k.deep k.there (Is Skip) (rw k.is) Skip refl refl)
+        many_next (read_stmt s P R v d) i at (at + 1) r e l (stmt_skip s P R v d at k.deep k.there (Ok Skip) (rw k.is) Skip refl refl)
 
     -- and with it those behind it
     module _ (n q : ℕ) (row : Skips s (at + 1) n) (q-is : q ≡ at + 1 + n) where
@@ -289,22 +289,22 @@ module _ (s : List ℕ) (d at : ℕ) where
     -- and a branch that is one
     pub skip_branch : (P R v : ℕ) → length s < place_limit → told (at + 1) ≡ end_of (read_stmt s P R v d at)
     unfolding FindsCode statement_of
-    skip_branch P R v l = let k = f h in position_told (at + 1) (found_low 0 b f h l) ∙ stmt_skip s P R v d at k.deep k.there (Is Skip) (rw k.is) Skip refl refl
+    skip_branch P R v l = let k = f h in position_told (at + 1) (found_low 0 b f h l) ∙ stmt_skip s P R v d at k.deep k.there (Ok Skip) (rw k.is) Skip refl refl
 
   -- a block's assignment and update
   module _ (P R v r : ℕ) (b : Bool) where
     pub part_assign : FindsCode s d at 1 b → b ≡ true → told r ≡ end_of (read_assign s v (at + 1)) → told r ≡ end_of (read_stmt s P R v d at)
     unfolding FindsCode statement_of
-    part_assign f h e = let k = f h in stmt_assign s P R v d at k.deep k.there (Is Assign) (rw k.is) Assign refl r refl e
+    part_assign f h e = let k = f h in stmt_assign s P R v d at k.deep k.there (Ok Assign) (rw k.is) Assign refl r refl e
 
     pub part_update : FindsCode s d at 6 b → b ≡ true → told r ≡ end_of (read_update s P R (at + 1)) → told r ≡ end_of (read_stmt s P R v d at)
     unfolding FindsCode statement_of
-    part_update f h e = let k = f h in stmt_update s P R v d at k.deep k.there (Is Update) (rw k.is) Update refl r refl e
+    part_update f h e = let k = f h in stmt_update s P R v d at k.deep k.there (Ok Update) (rw k.is) Update refl r refl e
 
 pub ruleset codes = (code_not, code_is)
 
 pub ruleset skips = (found_low, row_low, row_passed)
 
-pub ruleset parts = (part_assign, part_update)
+pub ruleset parts = (found_low, part_assign, part_update)
 
 pub ruleset statements = (stmt_deep, stmt_missing, stmt_unknown, stmt_skip, stmt_assign, stmt_block, stmt_if, stmt_while, stmt_query, stmt_update, stmt_transaction, tells)

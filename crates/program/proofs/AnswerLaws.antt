@@ -6,11 +6,13 @@ use mathlib.Core.Bool.{Bool, true, false, cond}
 use native.Mathlib.Omega.{arith}
 use native.Mathlib.Numerals.{sub-one}
 use lib.ListN.{length}
-use borrow.Author.Tests.{lt-ltb, le-ltb}
+use lib.Dec.{ltb}
+use borrow.Author.Tests.{lt-ltb, le-ltb, ltb-true, ltb-false}
 use Rattle.model.specs.Bytes.{byte}
 use Rattle.model.specs.Program.{Read as Reading, got, bad, and_then, read_byte, read_many}
-use Rattle.program.specs.declared.answer.Answer.{Answer}
-use Rattle.program.specs.Answer.{Reached, reached, stopped, reached_by, place_limit, refusal, told, Within, end_of}
+use Rattle.std.proofs.Common.{Result}
+use Rattle.program.specs.declared.answer.RefusedAt.{RefusedAt}
+use Rattle.program.specs.Answer.{Reached, reached, stopped, reached_by, place_limit, refusal, told, end_of}
 
 -- a word below the limit tells a position, any other a number and its place
 module _ (w : ℕ) where
@@ -41,16 +43,28 @@ module _ (w : ℕ) where
 
 pub ruleset answers = (answer_position, answer_refusal)
 
+-- a position that is told is low
+pub position_low : (w p : ℕ) → reached p ≡ told w → p < place_limit
+unfolding told
+position_low w p e = go (ltb w place_limit) refl
+  where
+    go : (t : Bool) → ltb w place_limit ≡ t → p < place_limit
+    go true h =
+        let l : w < place_limit = ltb-true w place_limit h in
+        let f : reached p ≡ reached w = e ∙ position_told w l in
+        let q : w ≡ p = cc in rw q at l
+    go false h = let f : reached p ≡ stopped (w / place_limit) (w % place_limit) = e ∙ refusal_told w (ltb-false w place_limit h) in cc
+
 -- an answer says what its word tells
-pub answer_told : (r : Answer) (w : ℕ) (x : Reached) → reached_by r ≡ told w → told w ≡ x → reached_by r ≡ x
+pub answer_told : (r : Result ℕ RefusedAt) (w : ℕ) (x : Reached) → reached_by r ≡ told w → told w ≡ x → reached_by r ≡ x
 answer_told r w x e h = e ∙ h
 
 -- a reader's word tells what it came to
 pub tell_position : (w : ℕ) (r : Reached) → w < place_limit → reached w ≡ r → told w ≡ r
 tell_position w r h e = position_told w h ∙ e
 
-pub tell_next : (s : List ℕ) (at : ℕ) (r : Reached) → Within s at → at < length s → reached (at + 1) ≡ r → told (at + 1) ≡ r
-tell_next s at r w l e = position_told (at + 1) (omega arith) ∙ e
+pub tell_next : (s : List ℕ) (at : ℕ) (r : Reached) → length s < place_limit → at < length s → reached (at + 1) ≡ r → told (at + 1) ≡ r
+tell_next s at r short l e = position_told (at + 1) (omega arith) ∙ e
 
 pub tell_refusal : (w k place : ℕ) (r : Reached) → w ≡ refusal k place → 0 < k → place < place_limit → stopped k place ≡ r → told w ≡ r
 tell_refusal w k place r q some h e = rw q (refusal_kept k place some h ∙ e)
@@ -129,4 +143,19 @@ module _ {A : Type 0} (sub : ℕ → Reading A) where
   many_refused zero p w r e h a d = absurd (omega arith)
   many_refused (suc i) p w r e h a d = then_refused (sub p) _ a d ∙ e
 
+  -- the same where it counts what is done: i of n
+  module _ (n i p : ℕ) (r : Reached) (e : end_of (read_many sub (n - i) p) ≡ r) where
+    pub count_done : n ≤ i → p < place_limit → told p ≡ r
+    count_done h b = position_told p b ∙ many_done (n - i) p r e (omega arith)
+
+    module _ (h : i < n) (w : ℕ) (a : told w ≡ end_of (sub p)) where
+      pub count_more : w < place_limit → end_of (read_many sub (n - (i + 1)) w) ≡ r
+      count_more b =
+          let k : n - (i + 1) ≡ n - i - 1 = omega arith in rw k (many_more (n - i) p w r e (omega arith) a b)
+
+      pub count_refused : place_limit ≤ w → told w ≡ r
+      count_refused d = many_refused (n - i) p w r e (omega arith) a d
+
 pub ruleset many = (many_done, many_more, many_refused, tells)
+
+pub ruleset counts = (count_done, count_more, count_refused)

@@ -1,6 +1,7 @@
 -- A law for each return of atoms.rt: the tests that led there say which case of the definition holds.
+use Rattle.std.proofs.Common.{Result, Ok, Err}
 use mathlib.Core.Path.{◌≡◌, refl, sym, ◌∙◌}
-use Prim.Native.Nat.{ℕ, zero, suc, ◌+◌, ◌-◌, ◌<◌, ◌≤◌}
+use Prim.Native.Nat.{ℕ, ◌+◌, ◌-◌, ◌<◌, ◌≤◌}
 use mathlib.Core.List.{List}
 use mathlib.Core.Bool.{Bool, true, false, cond, false≢true}
 use native.Mathlib.Omega.{arith}
@@ -16,17 +17,14 @@ use Rattle.model.specs.Fits.{AtomFits}
 use Rattle.model.specs.Program.{Read as Reading, got, bad, read_below, atom_at, read_atom, read_label, read_query, mutation_at, read_mutation}
 use Rattle.program.specs.declared.codes.Atom.{Atom}
 use Rattle.program.specs.declared.codes.Atom.TheVariants.{Role, Viewers, Trusters, Everyone}
-use Rattle.program.specs.declared.codes.AtomOf.{AtomOf}
-use Rattle.program.specs.declared.codes.AtomOf.TheVariants as atom
 use Rattle.program.specs.declared.codes.Kind.{Kind}
 use Rattle.program.specs.declared.codes.Kind.TheVariants.{AddMember, DeleteMember, AddTaken, DeleteTaken}
-use Rattle.program.specs.declared.codes.KindOf.{KindOf}
-use Rattle.program.specs.declared.codes.KindOf.TheVariants as kind
 use Rattle.program.specs.Answer.{reached, stopped, place_limit, told, end_of}
 use Rattle.program.specs.Entries.{FindsMutation}
 use Rattle.program.specs.Codes.{atom_of, model_atom, role_below, kind_of, model_kind, operand_bound}
 use Rattle.program.proofs.CodeLaws.{through, atom_byte_lem, atom_fits, none_high, none_everyone}
 use Rattle.program.proofs.AnswerLaws.{tells, then_reached, then_at, then_refused, then_last, byte_there, byte_missing}
+use Rattle.program.specs.declared.codes.UnknownCode.{UnknownCode}
 
 -- a byte below a bound
 module _ (s : List ℕ) (bound at : ℕ) where
@@ -59,11 +57,11 @@ module _ (s : List ℕ) (R at : ℕ) where
     unfolding read_label end_of
     other_label h n = rw (byte_there s at _ l) (simp (le-ltb _ _ h, ne_eqb _ _ n))
 
-    module _ (few : R ≤ role_limit) (k : AtomOf) (e : k ≡ atom_of (byte s at)) where
-      pub label_none : k ≡ atom.No → stopped 13 at ≡ end_of (read_label s R at)
+    module _ (few : R ≤ role_limit) (k : (Result Atom UnknownCode)) (e : k ≡ atom_of (byte s at)) where
+      pub label_none : k ≡ (Err (record {})) → stopped 13 at ≡ end_of (read_label s R at)
       label_none h = other_label (omega (arith, none_high (byte s at) k e h)) (none_everyone (byte s at) k e h)
 
-      module _ (a : Atom) (h : k ≡ atom.Is a) where
+      module _ (a : Atom) (h : k ≡ Ok a) where
         here_byte : atom_byte (model_atom a) ≡ byte s at
         here_byte = atom_byte_lem (byte s at) k e a h
 
@@ -100,32 +98,32 @@ module _ (s : List ℕ) (R at : ℕ) where
 pub ruleset labels = (label_missing, label_none, label_role, label_large, label_viewers, label_trusters, label_everyone, tells)
 
 -- an atom: the definition goes by what the byte stands for
-named : ℕ → ℕ → ℕ → AtomOf → Reading ModelAtom
-named R at next (atom.Is a) = cond (role_below R a) (got (model_atom a) next) (bad program_range at)
-named R at next atom.No = bad program_code at
+named : ℕ → ℕ → ℕ → (Result Atom UnknownCode) → Reading ModelAtom
+named R at next (Ok a) = cond (role_below R a) (got (model_atom a) next) (bad program_range at)
+named R at next (Err _) = bad program_code at
 
 by_name : (R at x next : ℕ) → atom_at R at x next ≡ named R at next (atom_of x)
 unfolding atom_at atom_of named role_below
 by_name R at x next =
     let f = named R at next in
-    through f (ltb x 0x40) (atom.Is (Role x)) (through f (ltb x 0x80) (atom.Is (Viewers (x - 0x40)))
-    (through f (ltb x 0xc0) (atom.Is (Trusters (x - 0x80))) (through f (eqb x 0xff) (atom.Is Everyone) refl)))
+    through f (ltb x 0x40) (Ok (Role x)) (through f (ltb x 0x80) (Ok (Viewers (x - 0x40)))
+    (through f (ltb x 0xc0) (Ok (Trusters (x - 0x80))) (through f (eqb x 0xff) (Ok Everyone) refl)))
 
 module _ (s : List ℕ) (R at : ℕ) where
   pub atom_missing : length s ≤ at → stopped 10 (length s) ≡ end_of (read_atom s R at)
   unfolding read_atom
   atom_missing h = byte_missing s at _ h
 
-  module _ (l : at < length s) (k : AtomOf) (e : k ≡ atom_of (byte s at)) where
+  module _ (l : at < length s) (k : (Result Atom UnknownCode)) (e : k ≡ atom_of (byte s at)) where
     here : read_atom s R at ≡ named R at (at + 1) k
     unfolding read_atom
     here = byte_there s at (atom_at R at) l ∙ by_name R at (byte s at) (at + 1) ∙ rw e
 
-    pub atom_none : k ≡ atom.No → stopped 12 at ≡ end_of (read_atom s R at)
+    pub atom_none : k ≡ (Err (record {})) → stopped 12 at ≡ end_of (read_atom s R at)
     unfolding end_of named
     atom_none h = rw (here, h)
 
-    module _ (a : Atom) (h : k ≡ atom.Is a) (b : Bool) (d : b ≡ role_below R a) where
+    module _ (a : Atom) (h : k ≡ Ok a) (b : Bool) (d : b ≡ role_below R a) where
       pub atom_read : b ≡ true → reached (at + 1) ≡ end_of (read_atom s R at)
       unfolding end_of named
       atom_read t = rw (here, h, ← d, t)
@@ -149,9 +147,9 @@ module _ (s : List ℕ) (R at a : ℕ) (e : told a ≡ end_of (read_atom s R at)
 pub ruleset queries = (query_first, query_second)
 
 -- a mutation: the definition goes by its kind
-kinded : List ℕ → ℕ → ℕ → ℕ → ℕ → KindOf → Reading Mutation
-kinded s P R at next (kind.Is k) = mutation_at s R (model_kind k) (operand_bound P R k) next
-kinded s P R at next kind.No = bad program_code at
+kinded : List ℕ → ℕ → ℕ → ℕ → ℕ → (Result Kind UnknownCode) → Reading Mutation
+kinded s P R at next (Ok k) = mutation_at s R (model_kind k) (operand_bound P R k) next
+kinded s P R at next (Err _) = bad program_code at
 
 by_kind : (s : List ℕ) (P R at x next : ℕ)
     → cond (eqb x 0) (mutation_at s R addMember P next) (cond (eqb x 1) (mutation_at s R deleteMember P next)
@@ -160,24 +158,24 @@ by_kind : (s : List ℕ) (P R at x next : ℕ)
 unfolding kind_of kinded operand_bound
 by_kind s P R at x next =
     let f = kinded s P R at next in
-    through f (eqb x 0) (kind.Is AddMember) (through f (eqb x 1) (kind.Is DeleteMember)
-    (through f (eqb x 2) (kind.Is AddTaken) (through f (eqb x 3) (kind.Is DeleteTaken) refl)))
+    through f (eqb x 0) (Ok AddMember) (through f (eqb x 1) (Ok DeleteMember)
+    (through f (eqb x 2) (Ok AddTaken) (through f (eqb x 3) (Ok DeleteTaken) refl)))
 
 module _ (s : List ℕ) (P R at : ℕ) where
   pub mutation_missing : length s ≤ at → stopped 10 (length s) ≡ end_of (read_mutation s P R at)
   unfolding read_mutation
   mutation_missing h = byte_missing s at _ h
 
-  module _ (l : at < length s) (k : KindOf) (e : k ≡ kind_of (byte s at)) where
+  module _ (l : at < length s) (k : (Result Kind UnknownCode)) (e : k ≡ kind_of (byte s at)) where
     there : read_mutation s P R at ≡ kinded s P R at (at + 1) k
     unfolding read_mutation
     there = byte_there s at _ l ∙ by_kind s P R at (byte s at) (at + 1) ∙ rw e
 
-    pub mutation_unknown : k ≡ kind.No → stopped 12 at ≡ end_of (read_mutation s P R at)
+    pub mutation_unknown : k ≡ (Err (record {})) → stopped 12 at ≡ end_of (read_mutation s P R at)
     unfolding end_of kinded
     mutation_unknown h = rw (there, h)
 
-    module _ (m : Kind) (h : k ≡ kind.Is m) (a : ℕ) (i : told a ≡ end_of (read_below s R (at + 1))) where
+    module _ (m : Kind) (h : k ≡ Ok m) (a : ℕ) (i : told a ≡ end_of (read_below s R (at + 1))) where
       pub mutation_role : place_limit ≤ a → told a ≡ end_of (read_mutation s P R at)
       unfolding kinded mutation_at
       mutation_role g = rw (there, h) (then_refused (read_below s R (at + 1)) _ i g)
@@ -189,47 +187,21 @@ module _ (s : List ℕ) (P R at : ℕ) where
 
 pub ruleset mutations = (mutation_missing, mutation_unknown, mutation_role, mutation_operand, tells)
 
--- a mutation that is as it must be: its kind is known by its code, and what its operand stays below
-record Coded (P R x bound : ℕ) : Type 0 where
-  kind_of_lem : Kind
-  is : kind_of x ≡ kind.Is kind_of_lem
-  bounds : operand_bound P R kind_of_lem ≡ bound
-
-member_code : (P R x : ℕ) → x < 2 → Coded P R x P
-unfolding kind_of operand_bound
-member_code P R zero h = record { kind_of_lem = AddMember; is = refl; bounds = refl }
-member_code P R (suc zero) h = record { kind_of_lem = DeleteMember; is = refl; bounds = refl }
-member_code P R (suc (suc x)) h = absurd (omega arith)
-
-taken_code : (P R x : ℕ) → 2 ≤ x → x < 4 → Coded P R x R
-unfolding kind_of operand_bound
-taken_code P R zero h g = absurd (omega arith)
-taken_code P R (suc zero) h g = absurd (omega arith)
-taken_code P R (suc (suc zero)) h g = record { kind_of_lem = AddTaken; is = refl; bounds = refl }
-taken_code P R (suc (suc (suc zero))) h g = record { kind_of_lem = DeleteTaken; is = refl; bounds = refl }
-taken_code P R (suc (suc (suc (suc x)))) h g = absurd (omega arith)
-
+-- a mutation that is as it must be
 module _ (s : List ℕ) (P R at : ℕ) where
   pub not_found : FindsMutation s P R at false
   unfolding FindsMutation
   not_found h = absurd (false≢true h)
 
-  module _ (l : at + 3 ≤ length s) (role : byte s (at + 1) < R) where
-    coded_read : (bound : ℕ) → Coded P R (byte s at) bound → byte s (at + 2) < bound → reached (at + 3) ≡ end_of (read_mutation s P R at)
-    unfolding kinded mutation_at
-    coded_read bound c operand =
-        let two : at + 2 ≡ at + 1 + 1 = omega arith in
-        let three : at + 3 ≡ at + 1 + 1 + 1 = omega arith in
-        rw (three, there s P R at (omega arith) (kind_of (byte s at)) refl, c.is, c.bounds)
-        (then_reached (read_below s R (at + 1)) _ (below_small s R (at + 1) (omega arith) role)
-        (λ x. below_small s bound (at + 1 + 1) (omega arith) (rw two at operand) ∙ then_last (read_below s bound (at + 1 + 1)) _))
+  pub found : at + 3 ≤ length s → byte s (at + 1) < R → (k : (Result Kind UnknownCode)) → k ≡ kind_of (byte s at) → (m : Kind) → k ≡ Ok m
+      → (bound : ℕ) → bound ≡ operand_bound P R m → FindsMutation s P R at (ltb (byte s (at + 2)) bound)
+  unfolding FindsMutation kinded mutation_at
+  found l role k e m h bound o t =
+      let operand : byte s (at + 2) < bound = ltb-true _ _ t in
+      let two : at + 2 ≡ at + 1 + 1 = omega arith in
+      let three : at + 3 ≡ at + 1 + 1 + 1 = omega arith in
+      rw (three, there s P R at (omega arith) k e, h, ← o)
+      (then_reached (read_below s R (at + 1)) _ (below_small s R (at + 1) (omega arith) role)
+      (λ x. below_small s bound (at + 1 + 1) (omega arith) (rw two at operand) ∙ then_last (read_below s bound (at + 1 + 1)) _))
 
-    pub member_found : byte s at < 2 → FindsMutation s P R at (ltb (byte s (at + 2)) P)
-    unfolding FindsMutation
-    member_found h t = coded_read P (member_code P R (byte s at) h) (ltb-true _ _ t)
-
-    pub taken_found : 2 ≤ byte s at → byte s at < 4 → FindsMutation s P R at (ltb (byte s (at + 2)) R)
-    unfolding FindsMutation
-    taken_found h g t = coded_read R (taken_code P R (byte s at) h g) (ltb-true _ _ t)
-
-pub ruleset founds = (not_found, member_found, taken_found)
+pub ruleset founds = (not_found, found)

@@ -1,5 +1,6 @@
 -- A law for each return of codes.rt, and for each enum one that relates a code to its byte: the tests are gone through in
 -- turn, and where one holds the byte is that code's, where none holds it is none of them.
+use Rattle.std.proofs.Common.{Result, Ok, Err}
 use mathlib.Core.Path.{◌≡◌, refl, sym, ◌∙◌}
 use Prim.Native.Nat.{ℕ, ◌+◌, ◌-◌, ◌<◌, ◌≤◌}
 use mathlib.Core.Bool.{Bool, true, false, cond}
@@ -12,22 +13,11 @@ use Rattle.model.specs.Syntax.{Atom as ModelAtom, role, fixed, of, everyone, ato
 use Rattle.model.specs.Fits.{AtomFits}
 use Rattle.program.specs.declared.codes.Atom.{Atom}
 use Rattle.program.specs.declared.codes.Atom.TheVariants.{Role, Viewers, Trusters, Everyone}
-use Rattle.program.specs.declared.codes.AtomOf.{AtomOf}
-use Rattle.program.specs.declared.codes.AtomOf.TheVariants as atom
 use Rattle.program.specs.declared.codes.Kind.{Kind}
-use Rattle.program.specs.declared.codes.Kind.TheVariants.{AddMember, DeleteMember, AddTaken, DeleteTaken}
-use Rattle.program.specs.declared.codes.KindOf.{KindOf}
-use Rattle.program.specs.declared.codes.KindOf.TheVariants as kind
-use Rattle.program.specs.declared.codes.Operator.TheVariants.{Sum, Difference, Product, Quotient, Less, Equal}
 use Rattle.program.specs.declared.codes.Expression.{Expression}
-use Rattle.program.specs.declared.codes.Expression.TheVariants.{Constant, Variable, Binary}
-use Rattle.program.specs.declared.codes.ExpressionOf.{ExpressionOf}
-use Rattle.program.specs.declared.codes.ExpressionOf.TheVariants as expression
 use Rattle.program.specs.declared.codes.Statement.{Statement}
-use Rattle.program.specs.declared.codes.Statement.TheVariants.{Skip, Assign, Block, If, While, Query, Update, Transaction}
-use Rattle.program.specs.declared.codes.StatementOf.{StatementOf}
-use Rattle.program.specs.declared.codes.StatementOf.TheVariants as statement
-use Rattle.program.specs.Codes.{atom_of, model_atom, code_atom, role_below, kind_of, kind_byte, operand_bound, expression_of, expression_byte, statement_of, statement_byte}
+use Rattle.program.specs.Codes.{atom_of, model_atom, code_atom, kind_of, kind_byte, expression_of, expression_byte, statement_of, statement_byte}
+use Rattle.program.specs.declared.codes.UnknownCode.{UnknownCode}
 
 -- what is made of the answer to a test is what is made of each of its two answers
 pub through : {A B : Type 0} (f : A → B) (t : Bool) (x : A) {rest : A} {others : B} → others ≡ f rest → cond t (f x) others ≡ f (cond t x rest)
@@ -56,23 +46,23 @@ module _ {A : Type 0} (Q : A → Type 0) (b k : ℕ) (x rest : A) where
 
 -- atoms
 module _ (b : ℕ) where
-  pub is_role : b < 0x40 → atom.Is (Role b) ≡ atom_of b
+  pub is_role : b < 0x40 → Ok (Role b) ≡ atom_of b
   unfolding atom_of
   is_role h = simp (lt-ltb _ _ h)
 
-  pub is_viewers : 0x40 ≤ b → b < 0x80 → atom.Is (Viewers (b - 0x40)) ≡ atom_of b
+  pub is_viewers : 0x40 ≤ b → b < 0x80 → Ok (Viewers (b - 0x40)) ≡ atom_of b
   unfolding atom_of
   is_viewers g h = simp (le-ltb _ _ g, lt-ltb _ _ h)
 
-  pub is_trusters : 0x80 ≤ b → b < 0xc0 → atom.Is (Trusters (b - 0x80)) ≡ atom_of b
+  pub is_trusters : 0x80 ≤ b → b < 0xc0 → Ok (Trusters (b - 0x80)) ≡ atom_of b
   unfolding atom_of
   is_trusters g h = let k : 0x40 ≤ b = omega arith in simp (le-ltb _ _ k, le-ltb _ _ g, lt-ltb _ _ h)
 
-  pub is_everyone : b ≡ 0xff → atom.Is Everyone ≡ atom_of b
+  pub is_everyone : b ≡ 0xff → Ok Everyone ≡ atom_of b
   unfolding atom_of
   is_everyone e = rw e
 
-  pub no_atom : 0xc0 ≤ b → (b ≡ 0xff → ⊥) → atom.No ≡ atom_of b
+  pub no_atom : 0xc0 ≤ b → (b ≡ 0xff → ⊥) → (Err (record {})) ≡ atom_of b
   unfolding atom_of
   no_atom g n =
       let k : 0x40 ≤ b = omega arith in
@@ -81,9 +71,9 @@ module _ (b : ℕ) where
 pub ruleset atoms = (is_role, is_viewers, is_trusters, is_everyone, no_atom)
 
 -- an atom's byte is the model's, and its role is one of those that there may be; a byte that is none is C0–FE
-AtomCode : ℕ → AtomOf → Type 0
-AtomCode b (atom.Is a) = (atom_byte (model_atom a) ≡ b) × AtomFits role_limit (model_atom a)
-AtomCode b atom.No = (0xc0 ≤ b) × (b ≡ 0xff → ⊥)
+AtomCode : ℕ → (Result Atom UnknownCode) → Type 0
+AtomCode b (Ok a) = (atom_byte (model_atom a) ≡ b) × AtomFits role_limit (model_atom a)
+AtomCode b (Err _) = (0xc0 ≤ b) × (b ≡ 0xff → ⊥)
 
 atom_code : (b : ℕ) → AtomCode b (atom_of b)
 unfolding atom_of AtomCode
@@ -94,11 +84,11 @@ atom_code b =
     (λ g. equal_or (AtomCode b) b 0xff _ _ (λ e. (sym e, tt))
     (λ n. (g, n)))))
 
-module _ (b : ℕ) (o : AtomOf) (e : o ≡ atom_of b) where
+module _ (b : ℕ) (o : (Result Atom UnknownCode)) (e : o ≡ atom_of b) where
   here_atom : AtomCode b o
   here_atom = rw e (atom_code b)
 
-  module _ (a : Atom) (h : o ≡ atom.Is a) where
+  module _ (a : Atom) (h : o ≡ Ok a) where
     pub atom_byte_lem : atom_byte (model_atom a) ≡ b
     unfolding AtomCode
     atom_byte_lem = (rw h at here_atom).0
@@ -107,7 +97,7 @@ module _ (b : ℕ) (o : AtomOf) (e : o ≡ atom_of b) where
     unfolding AtomCode
     atom_fits = (rw h at here_atom).1
 
-  module _ (h : o ≡ atom.No) where
+  module _ (h : o ≡ (Err (record {}))) where
     pub none_high : 0xc0 ≤ b
     unfolding AtomCode
     none_high = (rw h at here_atom).0
@@ -123,7 +113,7 @@ model_code (fixed (of reading j)) = refl
 model_code (fixed (of trust j)) = refl
 model_code (fixed everyone) = refl
 
-pub byte_atom : (m : ModelAtom) → AtomFits role_limit m → atom_of (atom_byte m) ≡ atom.Is (code_atom m)
+pub byte_atom : (m : ModelAtom) → AtomFits role_limit m → atom_of (atom_byte m) ≡ Ok (code_atom m)
 byte_atom (role j) f = sym (is_role j f)
 byte_atom (fixed (of reading j)) f =
     let k : 0x40 + j - 0x40 ≡ j = omega arith in sym (is_viewers (0x40 + j) (omega arith) (omega arith)) ∙ rw k
@@ -131,51 +121,21 @@ byte_atom (fixed (of trust j)) f =
     let k : 0x80 + j - 0x80 ≡ j = omega arith in sym (is_trusters (0x80 + j) (omega arith) (omega arith)) ∙ rw k
 byte_atom (fixed everyone) f = sym (is_everyone 0xff refl)
 
-module _ (m : ModelAtom) (f : AtomFits role_limit m) (b : ℕ) (y : atom_byte m ≡ b) (o : AtomOf) (e : o ≡ atom_of b) where
-  coded_atom : o ≡ atom.Is (code_atom m)
+module _ (m : ModelAtom) (f : AtomFits role_limit m) (b : ℕ) (y : atom_byte m ≡ b) (o : (Result Atom UnknownCode)) (e : o ≡ atom_of b) where
+  coded_atom : o ≡ Ok (code_atom m)
   coded_atom = e ∙ rw (← y) (byte_atom m f)
 
-  pub atom_is : (a : Atom) → o ≡ atom.Is a → model_atom a ≡ m
+  pub atom_is : (a : Atom) → o ≡ Ok a → model_atom a ≡ m
   atom_is a h = let k : a ≡ code_atom m = cc coded_atom in rw k (model_code m)
 
-  pub atom_some : o ≡ atom.No → ⊥
+  pub atom_some : o ≡ (Err (record {})) → ⊥
   atom_some h = let z : ◌≡◌ {A = ℕ} 0 1 = cc coded_atom in omega arith
-
-module _ (R j : ℕ) (a : Atom) where
-  pub below_role : a ≡ Role j → ltb j R ≡ role_below R a
-  unfolding role_below
-  below_role e = rw e
-
-  pub below_viewers : a ≡ Viewers j → ltb j R ≡ role_below R a
-  unfolding role_below
-  below_viewers e = rw e
-
-  pub below_trusters : a ≡ Trusters j → ltb j R ≡ role_below R a
-  unfolding role_below
-  below_trusters e = rw e
-
-pub below_everyone : (R : ℕ) (a : Atom) → a ≡ Everyone → true ≡ role_below R a
-unfolding role_below
-below_everyone R a e = rw e
-
-pub ruleset roles_below = (below_role, below_viewers, below_trusters, below_everyone)
 
 -- kinds of mutations
 module _ (b : ℕ) where
-  pub is_kind : (k : Kind) → b ≡ kind_byte k → kind.Is k ≡ kind_of b
-  unfolding kind_of
-  is_kind AddMember e = rw e
-  is_kind DeleteMember e = rw e
-  is_kind AddTaken e = rw e
-  is_kind DeleteTaken e = rw e
-
-  pub no_kind : (b ≡ 0 → ⊥) → (b ≡ 1 → ⊥) → (b ≡ 2 → ⊥) → (b ≡ 3 → ⊥) → kind.No ≡ kind_of b
-  unfolding kind_of
-  no_kind n0 n1 n2 n3 = simp (ne_eqb _ _ n0, ne_eqb _ _ n1, ne_eqb _ _ n2, ne_eqb _ _ n3)
-
-  KindCode : KindOf → Type 0
-  KindCode (kind.Is k) = b ≡ kind_byte k
-  KindCode kind.No = 3 < b
+  KindCode : (Result Kind UnknownCode) → Type 0
+  KindCode (Ok k) = b ≡ kind_byte k
+  KindCode (Err _) = 3 < b
 
   kind_code : KindCode (kind_of b)
   unfolding kind_of KindCode
@@ -185,71 +145,17 @@ module _ (b : ℕ) where
       (λ l. from_or KindCode b 2 _ _ l (λ e. e)
       (λ l. from_or KindCode b 3 _ _ l (λ e. e) (λ l. l))))
 
-  module _ (o : KindOf) (e : o ≡ kind_of b) where
-    pub kind_byte_lem : (k : Kind) → o ≡ kind.Is k → b ≡ kind_byte k
+  module _ (o : (Result Kind UnknownCode)) (e : o ≡ kind_of b) where
+    pub kind_byte_lem : (k : Kind) → o ≡ Ok k → b ≡ kind_byte k
     unfolding KindCode
     kind_byte_lem k h = rw (← e, h) at kind_code
 
-    pub kind_none : o ≡ kind.No → 3 < b
+    pub kind_none : o ≡ (Err (record {})) → 3 < b
     unfolding KindCode
     kind_none h = rw (← e, h) at kind_code
 
-pub ruleset kinds = (is_kind, no_kind)
-
-module _ (P R : ℕ) (k : Kind) where
-  pub bound_add_member : k ≡ AddMember → P ≡ operand_bound P R k
-  unfolding operand_bound
-  bound_add_member e = rw e
-
-  pub bound_delete_member : k ≡ DeleteMember → P ≡ operand_bound P R k
-  unfolding operand_bound
-  bound_delete_member e = rw e
-
-  pub bound_add_taken : k ≡ AddTaken → R ≡ operand_bound P R k
-  unfolding operand_bound
-  bound_add_taken e = rw e
-
-  pub bound_delete_taken : k ≡ DeleteTaken → R ≡ operand_bound P R k
-  unfolding operand_bound
-  bound_delete_taken e = rw e
-
-pub ruleset bounds = (bound_add_member, bound_delete_member, bound_add_taken, bound_delete_taken)
-
 -- codes of expressions and of statements
 module _ (b : ℕ) where
-  pub is_expression : (c : Expression) → b ≡ expression_byte c → expression.Is c ≡ expression_of b
-  unfolding expression_of
-  is_expression Constant e = rw e
-  is_expression Variable e = rw e
-  is_expression (Binary Sum) e = rw e
-  is_expression (Binary Difference) e = rw e
-  is_expression (Binary Product) e = rw e
-  is_expression (Binary Quotient) e = rw e
-  is_expression (Binary Less) e = rw e
-  is_expression (Binary Equal) e = rw e
-
-  pub is_statement : (c : Statement) → b ≡ statement_byte c → statement.Is c ≡ statement_of b
-  unfolding statement_of
-  is_statement Skip e = rw e
-  is_statement Assign e = rw e
-  is_statement Block e = rw e
-  is_statement If e = rw e
-  is_statement While e = rw e
-  is_statement Query e = rw e
-  is_statement Update e = rw e
-  is_statement Transaction e = rw e
-
-  module _ (n0 : b ≡ 0 → ⊥) (n1 : b ≡ 1 → ⊥) (n2 : b ≡ 2 → ⊥) (n3 : b ≡ 3 → ⊥) (n4 : b ≡ 4 → ⊥) (n5 : b ≡ 5 → ⊥) (n6 : b ≡ 6 → ⊥) (n7 : b ≡ 7 → ⊥) where
-    pub no_expression : expression.No ≡ expression_of b
-    unfolding expression_of
-    no_expression =
-        simp (ne_eqb _ _ n0, ne_eqb _ _ n1, ne_eqb _ _ n2, ne_eqb _ _ n3, ne_eqb _ _ n4, ne_eqb _ _ n5, ne_eqb _ _ n6, ne_eqb _ _ n7)
-
-    pub no_statement : statement.No ≡ statement_of b
-    unfolding statement_of
-    no_statement =
-        simp (ne_eqb _ _ n0, ne_eqb _ _ n1, ne_eqb _ _ n2, ne_eqb _ _ n3, ne_eqb _ _ n4, ne_eqb _ _ n5, ne_eqb _ _ n6, ne_eqb _ _ n7)
-
   -- eight codes, 00 to 07
   module _ {A : Type 0} (Q : A → Type 0) where
     eight : (c0 c1 c2 c3 c4 c5 c6 c7 none : A) → (b ≡ 0 → Q c0) → (b ≡ 1 → Q c1) → (b ≡ 2 → Q c2) → (b ≡ 3 → Q c3)
@@ -260,40 +166,36 @@ module _ (b : ℕ) where
         from_or Q b 0 _ _ (omega arith) q0 (λ l. from_or Q b 1 _ _ l q1 (λ l. from_or Q b 2 _ _ l q2 (λ l. from_or Q b 3 _ _ l q3
         (λ l. from_or Q b 4 _ _ l q4 (λ l. from_or Q b 5 _ _ l q5 (λ l. from_or Q b 6 _ _ l q6 (λ l. from_or Q b 7 _ _ l q7 q)))))))
 
-  ExpressionCode : ExpressionOf → Type 0
-  ExpressionCode (expression.Is c) = b ≡ expression_byte c
-  ExpressionCode expression.No = 7 < b
+  ExpressionCode : (Result Expression UnknownCode) → Type 0
+  ExpressionCode (Ok c) = b ≡ expression_byte c
+  ExpressionCode (Err _) = 7 < b
 
   expression_code : ExpressionCode (expression_of b)
   unfolding expression_of ExpressionCode
   expression_code = eight ExpressionCode _ _ _ _ _ _ _ _ _ (λ e. e) (λ e. e) (λ e. e) (λ e. e) (λ e. e) (λ e. e) (λ e. e) (λ e. e) (λ e. e)
 
-  module _ (o : ExpressionOf) (e : o ≡ expression_of b) where
-    pub expression_byte_lem : (c : Expression) → o ≡ expression.Is c → b ≡ expression_byte c
+  module _ (o : (Result Expression UnknownCode)) (e : o ≡ expression_of b) where
+    pub expression_byte_lem : (c : Expression) → o ≡ Ok c → b ≡ expression_byte c
     unfolding ExpressionCode
     expression_byte_lem c h = rw (← e, h) at expression_code
 
-    pub expression_none : o ≡ expression.No → 7 < b
+    pub expression_none : o ≡ (Err (record {})) → 7 < b
     unfolding ExpressionCode
     expression_none h = rw (← e, h) at expression_code
 
-  StatementCode : StatementOf → Type 0
-  StatementCode (statement.Is c) = b ≡ statement_byte c
-  StatementCode statement.No = 7 < b
+  StatementCode : (Result Statement UnknownCode) → Type 0
+  StatementCode (Ok c) = b ≡ statement_byte c
+  StatementCode (Err _) = 7 < b
 
   statement_code : StatementCode (statement_of b)
   unfolding statement_of StatementCode
   statement_code = eight StatementCode _ _ _ _ _ _ _ _ _ (λ e. e) (λ e. e) (λ e. e) (λ e. e) (λ e. e) (λ e. e) (λ e. e) (λ e. e) (λ e. e)
 
-  module _ (o : StatementOf) (e : o ≡ statement_of b) where
-    pub statement_byte_lem : (c : Statement) → o ≡ statement.Is c → b ≡ statement_byte c
+  module _ (o : (Result Statement UnknownCode)) (e : o ≡ statement_of b) where
+    pub statement_byte_lem : (c : Statement) → o ≡ Ok c → b ≡ statement_byte c
     unfolding StatementCode
     statement_byte_lem c h = rw (← e, h) at statement_code
 
-    pub statement_none : o ≡ statement.No → 7 < b
+    pub statement_none : o ≡ (Err (record {})) → 7 < b
     unfolding StatementCode
     statement_none h = rw (← e, h) at statement_code
-
-pub ruleset expressions = (is_expression, no_expression)
-
-pub ruleset statements = (is_statement, no_statement)

@@ -1,6 +1,6 @@
 -- A law for each return of read_entry: an entry is read as what its name says. The loop over entries goes by the laws of AnswerLaws,
 -- and so does the one that looks at mutations.
-use mathlib.Core.Path.{◌≡◌, refl, ◌∙◌}
+use mathlib.Core.Path.{◌≡◌, ◌∙◌}
 use Prim.Native.Nat.{ℕ, ◌+◌, ◌-◌, ◌*◌, ◌<◌, ◌≤◌}
 use mathlib.Core.List.{List}
 use mathlib.Core.Bool.{Bool, true, false, false≢true}
@@ -10,7 +10,7 @@ use Rattle.model.specs.Limits.{role_limit}
 use Rattle.model.specs.Program.{read_many, read_label, read_query, read_mutation}
 use Rattle.program.specs.declared.entries.Entry.{Entry}
 use Rattle.program.specs.declared.entries.Entry.TheVariants.{Label, Query, Mutation}
-use Rattle.program.specs.Answer.{told, Within, end_of}
+use Rattle.program.specs.Answer.{place_limit, told, end_of}
 use Rattle.program.specs.Entries.{Room, read_entry, FindsMutation, FindsMutations}
 use Rattle.program.proofs.AnswerLaws.{position_told, many_done, many_next}
 
@@ -29,34 +29,37 @@ module _ (s : List ℕ) (P R at : ℕ) (entry : Entry) (r : ℕ) where
 
 pub ruleset entries = (label_room, entry_label, entry_query, entry_mutation)
 
--- reading the `left` mutations from `here` on comes to what reading all n does, and they end where all end
-unfoldable pub Finding : List ℕ → ℕ → ℕ → ℕ → ℕ → ℕ → ℕ → Type 0
-Finding s P R n at left here =
-    (end_of (read_many (read_mutation s P R) left here) ≡ end_of (read_many (read_mutation s P R) n at)) × (here + 3 * left ≡ at + 3 * n)
+-- of n mutations i were found, and reading what is left behind them comes to what reading all does
+unfoldable pub Finding : List ℕ → ℕ → ℕ → ℕ → ℕ → ℕ → Type 0
+Finding s P R n at i =
+    end_of (read_many (read_mutation s P R) (n - i) (at + 3 * i)) ≡ end_of (read_many (read_mutation s P R) n at)
 
 module _ (s : List ℕ) (P R n at : ℕ) where
-  pub finding_starts : Finding s P R n at n at
+  pub finding_starts : Finding s P R n at 0
   unfolding Finding
-  finding_starts = (refl, refl)
+  finding_starts = let j : n - 0 ≡ n = omega arith in let k : at + 3 * 0 ≡ at = omega arith in rw (j, k)
 
   pub finding_fails : FindsMutations s P R n at false
   unfolding FindsMutations
   finding_fails h = absurd (false≢true h)
 
-  module _ (left here : ℕ) (f : Finding s P R n at left here) where
-    pub finding_goes_on : (r : Bool) → 0 < left → FindsMutation s P R here r → r ≡ true → Finding s P R n at (left - 1) (here + 3)
+  -- w and m are i and n as the code's wider numbers
+  module _ (i : ℕ) (f : Finding s P R n at i) where
+    pub finding_goes_on : (r : Bool) (w : ℕ) → i < n → w ≡ i → FindsMutation s P R (at + 3 * w) r → r ≡ true → Finding s P R n at (i + 1)
     unfolding Finding FindsMutation
-    finding_goes_on r some g h = (many_next (read_mutation s P R) left here (here + 3) _ f.0 some (g h), omega (arith, f.1))
+    finding_goes_on r w l e g h =
+        let j : n - (i + 1) ≡ n - i - 1 = omega arith in
+        let k : at + 3 * (i + 1) ≡ at + 3 * i + 3 = omega arith in
+        rw (j, k) (many_next (read_mutation s P R) (n - i) (at + 3 * i) (at + 3 * i + 3) _ f (omega arith) (rw e at (g h)))
 
-    pub finding_ends : left ≤ 0 → here + 3 * left ≤ length s → FindsMutations s P R n at true
+    pub finding_ends : (m : ℕ) → n ≤ i → i ≤ n → m ≡ n → at + 3 * m ≤ length s → FindsMutations s P R n at true
     unfolding Finding FindsMutations
-    finding_ends none l h =
-        let e : here ≡ at + 3 * n = omega (arith, f.1) in
-        record { inside = omega (arith, f.1); read = rw (← e) (many_done (read_mutation s P R) left here _ f.0 none) }
+    finding_ends m none few e l h =
+        let k : i ≡ n = omega arith in
+        record { inside = rw (← e) l; read = rw k at (many_done (read_mutation s P R) (n - i) (at + 3 * i) _ f (omega arith)) }
 
-  -- m is n as the code's wider number
-  pub mutations_found : (r : Bool) (m : ℕ) → Within s at → FindsMutations s P R n at r → r ≡ true → m ≡ n → told (at + 3 * m) ≡ end_of (read_many (read_mutation s P R) n at)
+  pub mutations_found : (r : Bool) (m : ℕ) → length s < place_limit → FindsMutations s P R n at r → r ≡ true → m ≡ n → told (at + 3 * m) ≡ end_of (read_many (read_mutation s P R) n at)
   unfolding FindsMutations
-  mutations_found r m w f h e = let u = f h in rw e (position_told (at + 3 * n) (omega (arith, u.inside, w.short)) ∙ u.read)
+  mutations_found r m short f h e = let u = f h in rw e (position_told (at + 3 * n) (omega (arith, u.inside)) ∙ u.read)
 
-pub ruleset findings = (finding_starts, finding_fails, finding_goes_on, finding_ends)
+pub ruleset findings = (finding_starts, finding_fails, finding_goes_on, finding_ends, mutations_found)

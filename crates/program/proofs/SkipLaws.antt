@@ -1,5 +1,5 @@
 -- Skips in a row: eight of them are a word that is 0.
-use Prim.Native.Nat.{ℕ, ◌+◌, ◌-◌, ◌^◌, ◌<◌, ◌≤◌}
+use Prim.Native.Nat.{ℕ, ◌+◌, ◌-◌, ◌*◌, ◌^◌, ◌<◌, ◌≤◌}
 use mathlib.Core.Path.{◌≡◌, sym, ◌∙◌}
 use mathlib.Core.List.{List}
 use native.Mathlib.Omega.{arith}
@@ -20,7 +20,7 @@ module _ (s : List ℕ) (at : ℕ) where
   next_one : (n i k : ℕ) → Skips s at n → k ≡ at + n → at + n < length s → byte s k ≡ 0 → i ≡ n + 1 → Skips s at i
   next_one n i k f e l z h = rw h (skip_more n f l (rw (← e) z))
 
-  pub eight_more : (n here : ℕ) → Skips s at n → here ≡ at + n → here < length s → 8 ≤ length s - here → (w : ℕ) → w ≡ word s here 8 → w ≡ 0 → Skips s at (n + 8)
+  eight_more : (n here : ℕ) → Skips s at n → here ≡ at + n → here < length s → 8 ≤ length s - here → (w : ℕ) → w ≡ word s here 8 → w ≡ 0 → Skips s at (n + 8)
   eight_more n here f e l room w w-is z =
       let b = zeros s here (sym w-is ∙ z) in
       let f₁ = next_one n (n + 1) (here + 0) f (omega arith) (omega arith) b.0 (omega arith) in
@@ -31,6 +31,15 @@ module _ (s : List ℕ) (at : ℕ) where
       let f₆ = next_one (n + 5) (n + 6) (here + 5) f₅ (omega arith) (omega arith) b.5 (omega arith) in
       let f₇ = next_one (n + 6) (n + 7) (here + 6) f₆ (omega arith) (omega arith) b.6 (omega arith) in
       next_one (n + 7) (n + 8) (here + 7) f₇ (omega arith) (omega arith) b.7 (omega arith)
+
+  -- so many eights; x is that many as the code's wider number
+  pub eights_more : (k x : ℕ) → Skips s at (8 * k) → x ≡ k → at + 8 * x < length s → 8 ≤ length s - (at + 8 * x) → (w : ℕ) → w ≡ word s (at + 8 * x) 8 → w ≡ 0 → Skips s at (8 * (k + 1))
+  eights_more k x f e l room w w-is z =
+      let next : 8 * (k + 1) ≡ 8 * k + 8 = omega arith in
+      rw next (eight_more (8 * k) (at + 8 * x) f (omega arith) l room w w-is z)
+
+  pub eights_done : (k m : ℕ) → Skips s at (8 * k) → m ≤ k → k ≤ m → Skips s at (8 * m)
+  eights_done k m f g h = let e : m ≡ k = omega arith in rw e f
 
   -- they lie within the bytes
   pub skips_low : (n : ℕ) → Skips s at n → length s < place_limit → at < place_limit → at + n < place_limit
@@ -51,4 +60,4 @@ over_row s P over at n left (skip_more k row l z) h few =
     let m : at + (k + 1) ≡ at + k + 1 = omega arith in
     rw (j, m) (over (left - k) (at + k) before (omega arith) l z)
 
-pub ruleset eights = (no_skip, eight_more)
+pub ruleset eights = (no_skip, eights_more, eights_done, skips_fit)

@@ -1,34 +1,27 @@
 -- What a byte stands for, in the enums of the code.
-use Rattle.std.specs.Prelude.{ℕ, ◌-◌, Bool, true, cond, eqb, ltb}
+use Rattle.std.specs.Prelude.{ℕ, ◌-◌, Bool, true, cond, eqb, ltb, Result, Ok, Err}
 use Rattle.model.specs.Policy.{reading, trust}
 use Rattle.model.specs.Mutation.{Kind as ModelKind, addMember, deleteMember, addTaken, deleteTaken}
 use Rattle.model.specs.Syntax.{Atom as ModelAtom, role, fixed, of, everyone, Operator as ModelOperator, sum, difference, product, quotient, less, equal}
 use Rattle.program.specs.declared.codes.Atom.{Atom}
 use Rattle.program.specs.declared.codes.Atom.TheVariants.{Role, Viewers, Trusters, Everyone}
-use Rattle.program.specs.declared.codes.AtomOf.{AtomOf}
-use Rattle.program.specs.declared.codes.AtomOf.TheVariants as atom
 use Rattle.program.specs.declared.codes.Kind.{Kind}
 use Rattle.program.specs.declared.codes.Kind.TheVariants.{AddMember, DeleteMember, AddTaken, DeleteTaken}
-use Rattle.program.specs.declared.codes.KindOf.{KindOf}
-use Rattle.program.specs.declared.codes.KindOf.TheVariants as kind
 use Rattle.program.specs.declared.codes.Operator.{Operator}
 use Rattle.program.specs.declared.codes.Operator.TheVariants.{Sum, Difference, Product, Quotient, Less, Equal}
 use Rattle.program.specs.declared.codes.Expression.{Expression}
 use Rattle.program.specs.declared.codes.Expression.TheVariants.{Constant, Variable, Binary}
-use Rattle.program.specs.declared.codes.ExpressionOf.{ExpressionOf}
-use Rattle.program.specs.declared.codes.ExpressionOf.TheVariants as expression
 use Rattle.program.specs.declared.codes.Statement.{Statement}
 use Rattle.program.specs.declared.codes.Statement.TheVariants.{Skip, Assign, Block, If, While, Query, Update, Transaction}
-use Rattle.program.specs.declared.codes.StatementOf.{StatementOf}
-use Rattle.program.specs.declared.codes.StatementOf.TheVariants as statement
+use Rattle.program.specs.declared.codes.UnknownCode.{UnknownCode}
 
 -- 00–3F a role, 40–7F its viewers, 80–BF its trusters, FF everyone; C0–FE is none
-unfoldable pub atom_of : ℕ → AtomOf
+unfoldable pub atom_of : ℕ → (Result Atom UnknownCode)
 atom_of b =
-    cond (ltb b 0x40) (atom.Is (Role b))
-    (cond (ltb b 0x80) (atom.Is (Viewers (b - 0x40)))
-    (cond (ltb b 0xc0) (atom.Is (Trusters (b - 0x80)))
-    (cond (eqb b 0xff) (atom.Is Everyone) atom.No)))
+    cond (ltb b 0x40) (Ok (Role b))
+    (cond (ltb b 0x80) (Ok (Viewers (b - 0x40)))
+    (cond (ltb b 0xc0) (Ok (Trusters (b - 0x80)))
+    (cond (eqb b 0xff) (Ok Everyone) (Err (record {})))))
 
 -- the model's atom, and back
 abbrev pub model_atom : Atom → ModelAtom
@@ -51,12 +44,12 @@ role_below R (Trusters j) = ltb j R
 role_below R Everyone = true
 
 -- 00 add and 01 delete a member, 02 add and 03 delete a taken role
-unfoldable pub kind_of : ℕ → KindOf
+unfoldable pub kind_of : ℕ → (Result Kind UnknownCode)
 kind_of b =
-    cond (eqb b 0) (kind.Is AddMember)
-    (cond (eqb b 1) (kind.Is DeleteMember)
-    (cond (eqb b 2) (kind.Is AddTaken)
-    (cond (eqb b 3) (kind.Is DeleteTaken) kind.No)))
+    cond (eqb b 0) (Ok AddMember)
+    (cond (eqb b 1) (Ok DeleteMember)
+    (cond (eqb b 2) (Ok AddTaken)
+    (cond (eqb b 3) (Ok DeleteTaken) (Err (record {})))))
 
 -- a kind's byte
 abbrev pub kind_byte : Kind → ℕ
@@ -80,16 +73,16 @@ operand_bound P R AddTaken = R
 operand_bound P R DeleteTaken = R
 
 -- 00 a constant, 01 a variable, 02 to 07 an operator of two expressions
-unfoldable pub expression_of : ℕ → ExpressionOf
+unfoldable pub expression_of : ℕ → (Result Expression UnknownCode)
 expression_of b =
-    cond (eqb b 0) (expression.Is Constant)
-    (cond (eqb b 1) (expression.Is Variable)
-    (cond (eqb b 2) (expression.Is (Binary Sum))
-    (cond (eqb b 3) (expression.Is (Binary Difference))
-    (cond (eqb b 4) (expression.Is (Binary Product))
-    (cond (eqb b 5) (expression.Is (Binary Quotient))
-    (cond (eqb b 6) (expression.Is (Binary Less))
-    (cond (eqb b 7) (expression.Is (Binary Equal)) expression.No)))))))
+    cond (eqb b 0) (Ok Constant)
+    (cond (eqb b 1) (Ok Variable)
+    (cond (eqb b 2) (Ok (Binary Sum))
+    (cond (eqb b 3) (Ok (Binary Difference))
+    (cond (eqb b 4) (Ok (Binary Product))
+    (cond (eqb b 5) (Ok (Binary Quotient))
+    (cond (eqb b 6) (Ok (Binary Less))
+    (cond (eqb b 7) (Ok (Binary Equal)) (Err (record {})))))))))
 
 -- an operator's byte
 abbrev pub operator_byte : Operator → ℕ
@@ -116,16 +109,16 @@ model_operator Less = less
 model_operator Equal = equal
 
 -- 00 skip, 01 assign, 02 block, 03 if, 04 while, 05 query, 06 update, 07 transaction
-unfoldable pub statement_of : ℕ → StatementOf
+unfoldable pub statement_of : ℕ → (Result Statement UnknownCode)
 statement_of b =
-    cond (eqb b 0) (statement.Is Skip)
-    (cond (eqb b 1) (statement.Is Assign)
-    (cond (eqb b 2) (statement.Is Block)
-    (cond (eqb b 3) (statement.Is If)
-    (cond (eqb b 4) (statement.Is While)
-    (cond (eqb b 5) (statement.Is Query)
-    (cond (eqb b 6) (statement.Is Update)
-    (cond (eqb b 7) (statement.Is Transaction) statement.No)))))))
+    cond (eqb b 0) (Ok Skip)
+    (cond (eqb b 1) (Ok Assign)
+    (cond (eqb b 2) (Ok Block)
+    (cond (eqb b 3) (Ok If)
+    (cond (eqb b 4) (Ok While)
+    (cond (eqb b 5) (Ok Query)
+    (cond (eqb b 6) (Ok Update)
+    (cond (eqb b 7) (Ok Transaction) (Err (record {})))))))))
 
 -- a statement's byte
 abbrev pub statement_byte : Statement → ℕ

@@ -1,5 +1,4 @@
 pub mod Answer
 pub mod Codes
 pub mod Entries
-pub mod Layout
 pub mod Skips

@@ -1,21 +1,23 @@
 // What reading a program and checking it answer: the position after what was gone through, or document 01's number and the
 // place that shows it.
 //
-// Readers answer in one word, and each call of a reader is given a slice made anew. An enum is handed back through memory part
-// by part, and a slice that is passed on as it came is copied through memory at each call; what follows waits on both.
+// Readers answer in one word, which is one register: a `Result` with number and place beside each other is handed back through
+// memory part by part, and what follows waits on it.
 ghost use Rattle.std.specs.Prelude.{◌≡◌, ◌/◌, ◌%◌};
 ghost use Rattle.program.specs.Answer.{place_limit, refusal, told, reached_by};
 
-#[derive(Clone, Copy)]
-pub enum Answer {
-    At(usize),
-    Refused(u32, usize),
+// A refusal: document 01's number, and the place in the program that shows it.
+#[derive(Clone, Copy, Debug, PartialEq, Eq)]
+pub struct RefusedAt {
+    pub number: u32,
+    pub place: usize,
 }
 
 // Below this a word is a position, from it on a refusal: document 01's number from bit 32 on, the place below.
 pub const REFUSED: u64 = 4294967296;
 
 // The word of a refusal.
+#[tactic(auto, unfolding(crate::specs::Answer::refusal))]
 pub fn refused(number: u32, place: usize) -> u64
     ensures { result ≡ refusal number place }
 {
@@ -37,11 +39,15 @@ pub fn place_of(word: u64) -> usize
 }
 
 // What a word says.
-pub fn answer_of(word: u64) -> Answer
+#[tactic(auto, using(crate::proofs::AnswerLaws::answers))]
+pub fn answer_of(word: u64) -> Result<usize, RefusedAt>
     ensures { reached_by result ≡ told word }
 {
     if word < REFUSED {
-        return Answer::At(word as usize);
+        return Ok(word as usize);
     }
-    Answer::Refused(number_of(word), place_of(word))
+    Err(RefusedAt {
+        number: number_of(word),
+        place: place_of(word),
+    })
 }

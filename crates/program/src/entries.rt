@@ -1,15 +1,16 @@
 // The lists of a program: so many labels, queries or mutations, one after the other.
-ghost use Rattle.std.specs.Prelude.{◌≡◌};
+ghost use Rattle.std.specs.Prelude.{◌≡◌, ◌<◌};
 ghost use Rattle.model.specs.Program.{read_many, read_mutation};
-ghost use Rattle.program.specs.Answer.{told, Within, end_of};
+ghost use Rattle.program.specs.Answer.{place_limit, told, end_of};
 ghost use Rattle.program.specs.Entries.{Room, read_entry, FindsMutations};
 
-use super::{answer, atoms};
-use shared::bytes;
+use super::answer;
+use super::reader::Reader;
 
-const MUTATION_BYTES: usize = 3;
+pub const MUTATION_BYTES: usize = 3;
 
-// What a list holds: the labels of variables, the queries of a transaction, the mutations of an update.
+// What a list holds: the labels of variables, the queries of a transaction, the mutations of an update. Kept an enum: with a
+// closure for the reader of one entry each caller would have to say, and prove, which reading of the model it is.
 #[derive(Clone, Copy)]
 pub enum Entry {
     Label,
@@ -17,74 +18,66 @@ pub enum Entry {
     Mutation,
 }
 
-// One entry.
-fn read_entry(program: &[u8], principals: u8, roles: u8, entry: Entry, at: usize) -> u64
-    requires room { Room entry roles }
-    requires within { Within program.now at }
-    ensures { told result ≡ end_of (read_entry program.now principals roles entry at) }
-{
-    match entry {
-        Entry::Label => atoms::read_label(program, roles, at),
-        Entry::Query => atoms::read_query(program, roles, at),
-        Entry::Mutation => atoms::read_mutation(program, principals, roles, at),
-    }
-}
-
-// n entries.
-pub fn read_entries(
-    program: &[u8],
-    principals: u8,
-    roles: u8,
-    entry: Entry,
-    n: u8,
-    at: usize,
-) -> u64
-    requires room { Room entry roles }
-    requires within { Within program.now at }
-    ensures { told result ≡ end_of (read_many (read_entry program.now principals roles entry) n at) }
-{
-    let mut left = n;
-    let mut next = at;
-    while 0 < left {
-        let one = read_entry(program, principals, roles, entry, next);
-        if answer::REFUSED <= one {
-            return one;
+impl<'a> Reader<'a> {
+    // One entry.
+    #[tactic(auto, using(crate::proofs::EntryLaws::entries))]
+    fn read_entry(&self, entry: Entry, at: usize) -> u64
+        requires room { Room entry self.now.roles }
+        requires low { at < place_limit }
+        ensures { told result ≡ end_of (read_entry self.now.program.now self.now.principals self.now.roles entry at) }
+    {
+        match entry {
+            Entry::Label => self.read_label(at),
+            Entry::Query => self.read_query(at),
+            Entry::Mutation => self.read_mutation(at),
         }
-        next = one as usize;
-        left -= 1;
     }
-    next as u64
-}
 
-// Whether n mutations stand at `at` within the bytes, each as it must be.
-fn are_mutations(program: &[u8], principals: u8, roles: u8, n: u8, at: usize) -> bool
-    requires { Within program.now at }
-    ensures { FindsMutations program.now principals roles n at result }
-{
-    if program.len() < at + MUTATION_BYTES * (bytes::wide(n) as usize) {
-        return false;
+    // n entries.
+    #[tactic(auto, using(crate::proofs::AnswerLaws::counts))]
+    pub fn read_entries(&self, entry: Entry, n: u8, at: usize) -> u64
+        requires room { Room entry self.now.roles }
+        requires low { at < place_limit }
+        ensures { told result ≡ end_of (read_many (read_entry self.now.program.now self.now.principals self.now.roles entry) n at) }
+    {
+        let mut next = at;
+        for _ in 0..n {
+            let one = self.read_entry(entry, next);
+            if answer::REFUSED <= one {
+                return one;
+            }
+            next = one as usize;
+        }
+        next as u64
     }
-    let mut left = n;
-    let mut here = at;
-    while 0 < left {
-        if atoms::is_mutation(program, principals, roles, here) {
-            here += MUTATION_BYTES;
-            left -= 1;
-        } else {
+
+    // Whether n mutations stand at `at` within the bytes, each as it must be.
+    #[tactic(auto, using(crate::proofs::EntryLaws::findings))]
+    fn are_mutations(&self, n: u8, at: usize) -> bool
+        requires { at < place_limit }
+        ensures { FindsMutations self.now.program.now self.now.principals self.now.roles n at result }
+    {
+        if self.program.len() < at + MUTATION_BYTES * usize::from(n) {
             return false;
         }
+        for i in 0..n {
+            if !self.is_mutation(at + MUTATION_BYTES * usize::from(i)) {
+                return false;
+            }
+        }
+        true
     }
-    true
-}
 
-// n mutations. Most lists are as they must be, and finding that out takes half the time of reading entry by entry, since whether
-// they lie within the bytes is asked once. Any other is read entry by entry, for the first byte that shows a number.
-pub fn read_mutations(program: &[u8], principals: u8, roles: u8, n: u8, at: usize) -> u64
-    requires { Within program.now at }
-    ensures { told result ≡ end_of (read_many (read_mutation program.now principals roles) n at) }
-{
-    if are_mutations(program, principals, roles, n, at) {
-        return (at + MUTATION_BYTES * (bytes::wide(n) as usize)) as u64;
+    // n mutations. Most lists are as they must be, and finding that out takes half the time of reading entry by entry, since
+    // whether they lie within the bytes is asked once. Any other is read entry by entry, for the first byte that shows a number.
+    #[tactic(auto, using(crate::proofs::EntryLaws::mutations_found))]
+    pub fn read_mutations(&self, n: u8, at: usize) -> u64
+        requires { at < place_limit }
+        ensures { told result ≡ end_of (read_many (read_mutation self.now.program.now self.now.principals self.now.roles) n at) }
+    {
+        if self.are_mutations(n, at) {
+            return (at + MUTATION_BYTES * usize::from(n)) as u64;
+        }
+        self.read_entries(Entry::Mutation, n, at)
     }
-    read_entries(&program[..], principals, roles, Entry::Mutation, n, at)
 }

@@ -8,13 +8,14 @@ const EIGHT: u8 = 8;
 
 // How many skips stand in a row from a position on, by whole eights and at most `most`: eight are one word that is 0. Blocks of
 // skips take a third of the time by it.
+#[tactic(auto, using(crate::proofs::SkipLaws::eights))]
 pub fn in_eights(program: &[u8], at: usize, most: u8) -> u8
     ensures skips { Skips program.now at result }
     ensures few { result ≤ most }
 {
-    let mut found = 0;
-    let mut here = at;
-    while EIGHT <= most - found {
+    for eights in 0..most / EIGHT {
+        let found = EIGHT * eights;
+        let here = at + 8 * usize::from(eights);
         if program.len() <= here {
             return found;
         }
@@ -24,10 +25,8 @@ pub fn in_eights(program: &[u8], at: usize, most: u8) -> u8
         if bytes::word64(program, here) != 0 {
             return found;
         }
-        here += 8;
-        found += EIGHT;
     }
-    found
+    EIGHT * (most / EIGHT)
 }
 
 // The position behind so many skips.
@@ -35,5 +34,5 @@ pub fn after(program: &[u8], at: usize, count: u8) -> usize
     requires { Skips program.now at count }
     ensures { result ≡ at + count }
 {
-    at + (bytes::wide(count) as usize)
+    at + usize::from(count)
 }
