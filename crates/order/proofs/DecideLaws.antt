@@ -16,8 +16,9 @@ use Rattle.model.proofs.Order.{test_derivable, derivable_test, join_derivable, d
 use Rattle.program.specs.declared.codes.Atom.{Atom as CodeAtom}
 use Rattle.program.specs.Codes.{model_atom}
 use Rattle.order.specs.declared.table.Row.{Row}
-use Rattle.program.specs.Layout.{side_of}
-use Rattle.order.specs.Table.{row_of, index_of, row_in, watched, holds, Knows, Joins, JoinBelow, Decides}
+use Rattle.shared.specs.declared.side.Side.{Side as CodeSide}
+use Rattle.shared.specs.Sides.{model_side}
+use Rattle.order.specs.Table.{Table, row_of, index_of, row_in, watched, holds, Knows, Joins, JoinBelow, Decides}
 use Rattle.order.proofs.TableLaws.{index_is}
 
 -- a join is at most b exactly when each of its atoms is
@@ -28,7 +29,7 @@ module _ (s : List ℕ) (known : List Query) (join : List Atom) (b : Atom) where
   below_each : ((a : Atom) → Memᴰ a join → at_most s known a b ≡ true) → join_at_most s known join b ≡ true
   below_each f = derivable_join s known join b (λ a m. test_derivable s known a b (f a m))
 
-module _ (s : List ℕ) (known : List Query) (t : List ℕ) (knows : Knows s known t) (side : Side) (join : List Atom) (rs ws : ℕ) (joins : Joins side join rs ws)
+module _ (s : List ℕ) (known : List Query) (t : Table) (knows : Knows s known t) (side : Side) (join : List Atom) (rs ws : ℕ) (joins : Joins side join rs ws)
     (small : JoinBelow (roles s) join) (b : Atom) (below : AtomFits (roles s) b) (r : Row) (e : r ≡ row_in t (row_of b)) where
   -- the row decides
   in_row : (a : Atom) → Memᴰ a join → holds r a ≡ at_most s known a b
@@ -53,16 +54,16 @@ module _ (s : List ℕ) (known : List Query) (t : List ℕ) (knows : Knows s kno
       (λ h. and_both _ _ (each_role h) (each_watched h))
 
 -- the target's row was read, and b says whether the join's roles lie in it
-module _ (t : List ℕ) (o : CodeAtom) (rs ws : ℕ) (r : Row) (b flag : Bool) (d : r ≡ row_in t (index_of o)) (g : b ≡ within rs r.roles) where
-  pub decided : Decides t (side_of flag) rs ws (model_atom o) (b && within ws (watched (side_of flag) r))
+module _ (t : Table) (o : CodeAtom) (rs ws : ℕ) (r : Row) (b : Bool) (side : CodeSide) (d : r ≡ row_in t (index_of o)) (g : b ≡ within rs r.roles) where
+  pub decided : Decides t (model_side side) rs ws (model_atom o) (b && within ws (watched (model_side side) r))
   unfolding Decides
   decided s known join ok knows joins small below =
-      rw g (row_decides s known t knows (side_of flag) join rs ws joins small (model_atom o) below r (d ∙ rw (index_is (roles s) o (accepted_facts s ok).roles_fit below)))
+      rw g (row_decides s known t knows (model_side side) join rs ws joins small (model_atom o) below r (d ∙ rw (index_is (roles s) o (accepted_facts s ok).roles_fit below)))
 
-  pub roles_outside : b ≡ false → Decides t (side_of flag) rs ws (model_atom o) false
+  pub roles_outside : b ≡ false → Decides t (model_side side) rs ws (model_atom o) false
   roles_outside h = rw h at decided
 
-  pub watched_decide : b ≡ true → (w : ℕ) (c : Bool) → w ≡ watched (side_of flag) r → c ≡ within ws w → Decides t (side_of flag) rs ws (model_atom o) c
+  pub watched_decide : b ≡ true → (w : ℕ) (c : Bool) → w ≡ watched (model_side side) r → c ≡ within ws w → Decides t (model_side side) rs ws (model_atom o) c
   watched_decide h w c f i = rw (i, f) (rw h at decided)
 
 pub ruleset decisions = (roles_outside, watched_decide, not-true, not-false)

@@ -1,12 +1,16 @@
 -- A law for each return and each turn of learn.rt: rows that were passed have grown, all others are as they were.
-use mathlib.Core.Path.{◌≡◌, refl, sym, ap, ◌∙◌}
-use Prim.Native.Nat.{ℕ, ◌+◌, ◌<◌, ◌≤◌}
-use mathlib.Core.List.{List, ◌∷◌}
-use mathlib.Core.Logic.{⊎_elim}
+use mathlib.Core.Path.{◌≡◌, refl, sym, ap, subst, ◌∙◌}
+use Prim.Native.Nat.{ℕ, ◌+◌, ◌-◌, ◌<◌, ◌≤◌}
+use mathlib.Core.List.{List, ◌∷◌, ◌++◌}
+use mathlib.Core.Logic.{◌⊎◌, inl, inr, ⊎_elim}
 use mathlib.Core.Bool.{Bool, true, false, cond, ◌||◌, ◌&&◌, or-false, and-true, and-false}
 use native.Mathlib.Omega.{arith}
-use native.Mathlib.Decide.{dec_lt}
-use lib.ListN.{length}
+use lib.ListN.{length, set, take, drop, length-set}
+use borrow.Rule.Slice.PartMut.{mid_of, post_of, put_mid, same_len_mid}
+use Rattle.std.proofs.lemmas.List.{get_or_append_left, get_or-append-add, get_or-take, get_or-drop, length-take-le, length-drop}
+use native.Mathlib.Numerals.{add-one}
+use Rattle.model.proofs.Below.{last_or}
+use lib.Seq.{get_or-set_same, get_or-set_other}
 use Rattle.model.specs.Limits.{role_limit}
 use Rattle.model.specs.Policy.{reading, trust, roles}
 use Rattle.model.specs.Syntax.{of, everyone, Atom, role, fixed, Query}
@@ -18,62 +22,72 @@ use Rattle.model.specs.Fits.{AtomFits}
 use Rattle.program.specs.declared.codes.Atom.{Atom as CodeAtom}
 use Rattle.program.specs.Codes.{model_atom}
 use Rattle.order.specs.declared.table.Row.{Row}
-use Rattle.order.specs.Table.{viewers_at, trusters_at, everyone_at, table_rows, table_words, row_of, index_of, row_in, put_row, holds, union, row_has, query_of, Learnt, DecidesQuery}
-use Rattle.order.specs.Learn.{grown, Grew, AllGrew}
-use Rattle.order.proofs.TableLaws.{put_long, put_same, put_other, index_is, holds_union}
-
-grown_in : (a : Atom) (lower r : Row) → holds r a ≡ true → grown a lower r ≡ union r lower
-grown_in a lower r h = rw h
-
-grown_out : (a : Atom) (lower r : Row) → holds r a ≡ false → grown a lower r ≡ r
-grown_out a lower r h = rw h
+use Rattle.order.specs.Table.{viewers_at, trusters_at, everyone_at, Table, table_rows, row_of, index_of, row_in, empty_row, holds, union, row_has, query_of, Learnt, DecidesQuery}
+use Rattle.order.specs.Learn.{grown, StartGrew, Grew, AllGrew}
+use Rattle.order.proofs.TableLaws.{index_is, holds_union}
 
 module _ (a : Atom) (lower : Row) where
   -- one row
-  module _ (t : List ℕ) (y : ℕ) (long : length t ≡ table_words) (r : Row) (e : r ≡ row_in t y) (b : Bool) (d : b ≡ holds r a) where
-    pub grow_in : b ≡ true → y < table_rows → (m : Row) (u : List ℕ) → m ≡ union r lower → u ≡ put_row t y m → Grew a lower y 1 t u
-    grow_in h l m u p q = record {
-      long = put_long t u y m long q;
-      before = λ z k. put_other t u y m long q z (λ f. omega arith);
-      inside = λ z k g. let f : z ≡ y = omega arith in rw f (put_same t u y m long q l ∙ new);
-      after = λ z k. put_other t u y m long q z (λ f. omega arith);
-    }
-      where
-        new : m ≡ grown a lower (row_in t y)
-        new = p ∙ sym (grown_in a lower r (sym d ∙ h)) ∙ ap (grown a lower) e
+  pub grow_in : (r m : Row) (b : Bool) → b ≡ holds r a → b ≡ true → m ≡ union r lower → m ≡ grown a lower r
+  grow_in r m b d h p = let e : holds r a ≡ true = sym d ∙ h in rw e p
 
-    pub grow_out : b ≡ false → Grew a lower y 1 t t
-    grow_out h = record {
-      long = long;
-      before = λ z k. refl;
-      inside = λ z k g. let f : z ≡ y = omega arith in rw f old;
-      after = λ z k. refl;
-    }
-      where
-        old : row_in t y ≡ grown a lower (row_in t y)
-        old = sym e ∙ sym (grown_out a lower r (sym d ∙ h)) ∙ ap (grown a lower) e
+  pub grow_out : (r : Row) (b : Bool) → b ≡ holds r a → b ≡ false → r ≡ grown a lower r
+  grow_out r b d h = let e : holds r a ≡ false = sym d ∙ h in rw e refl
 
-  -- rows from `from` on
-  module _ (from : ℕ) (t : List ℕ) where
-    pub grew_none : length t ≡ table_words → Grew a lower from 0 t t
-    grew_none l = record { long = l; before = λ z k. refl; inside = λ z k g. absurd (omega arith); after = λ z k. refl }
+  -- one row after the other
+  pub start_none : (t : List Row) → StartGrew a lower 0 t t
+  start_none t = record { long = refl; inside = λ y k. absurd (omega arith); after = λ y k. refl }
 
-    pub grew_more : (i : ℕ) (u v : List ℕ) → Grew a lower from i t u → Grew a lower (from + i) 1 u v → Grew a lower from (i + 1) t v
-    grew_more i u v g h = record {
-      long = h.long;
-      before = λ z k. h.before z (omega arith) ∙ g.before z k;
-      inside = λ z k l. step z k l (dec_lt z (from + i));
-      after = λ z k. h.after z (omega arith) ∙ g.after z (omega arith);
-    }
-      where
-        step : (z : ℕ) → from ≤ z → z < from + (i + 1) → Dec (z < from + i) → row_in v z ≡ grown a lower (row_in t z)
-        step z k l (yes p) = h.before z p ∙ g.inside z k p
-        step z k l (no p) = h.inside z (omega arith) (omega arith) ∙ ap (grown a lower) (g.after z (omega arith))
+  pub start_more : (i : ℕ) (t u : List Row) (r : Row) → StartGrew a lower i t u → i < length u → r ≡ grown a lower (row_in u i) → StartGrew a lower (i + 1) t (set u i r)
+  start_more i t u r g l e = record {
+    long = simp length-set g.long;
+    inside = λ y k. go y (last_or i y (rw add-one at k));
+    after = λ y k. get_or-set_other u i y r empty_row (λ f. omega arith) ∙ g.after y (omega arith);
+  }
+    where
+      go : (y : ℕ) → (y ≡ i) ⊎ (y < i) → row_in (set u i r) y ≡ grown a lower (row_in t y)
+      go y (inl q) = rw q (get_or-set_same u i r empty_row l ∙ e ∙ ap (grown a lower) (g.after i (omega arith)))
+      go y (inr m) = get_or-set_other u i y r empty_row (λ f. omega arith) ∙ g.inside y m
 
-    pub grew_done : (i count : ℕ) (u : List ℕ) → Grew a lower from i t u → i ≤ count → count ≤ i → Grew a lower from count t u
-    grew_done i count u g h k = let e : i ≡ count = omega arith in rw e at g
+  pub start_done : (i n : ℕ) (t u : List Row) → StartGrew a lower i t u → i ≤ n → n ≤ i → StartGrew a lower n t u
+  start_done i n t u g h k = let e : i ≡ n = omega arith in rw e at g
 
-pub ruleset grows = (grow_in, grow_out, grew_none, grew_more, grew_done)
+  -- rows of the table
+  pub grew_part : (from count k : ℕ) (t ys : List Row) → length t ≡ table_rows → from + count ≤ table_rows → k ≡ from + count - from
+      → StartGrew a lower (length (mid_of from k t)) (mid_of from k t) ys → Grew a lower from count t (put_mid from k t ys)
+  grew_part from count k t ys long fits e g = record {
+    long = same_len_mid from k t ys g.long ∙ long;
+    before = λ y l. get_or_append_left (take from t) (ys ++ post_of from k t) empty_row y (omega (arith, whole)) ∙ get_or-take from t y empty_row l;
+    inside = λ y l m. subst (λ (z : ℕ). row_in (put_mid from k t ys) z ≡ grown a lower (row_in t z)) (back y l) (within (y - from) (omega arith));
+    after = λ y l. subst (λ (z : ℕ). row_in (put_mid from k t ys) z ≡ row_in t z) (behind y l) (past (y - (from + count)));
+  }
+    where
+      whole : length (take from t) ≡ from
+      whole = length-take-le from t (omega arith)
+
+      mid_long : length (mid_of from k t) ≡ k
+      mid_long = length-take-le k (drop from t) (omega (arith, length-drop from t))
+
+      back : (y : ℕ) → from ≤ y → from + (y - from) ≡ y
+      back y l = omega arith
+
+      behind : (y : ℕ) → from + count ≤ y → from + (k + (y - (from + count))) ≡ y
+      behind y l = omega arith
+
+      at : (i : ℕ) → row_in (put_mid from k t ys) (from + i) ≡ row_in (ys ++ post_of from k t) i
+      at i = ap (λ (n : ℕ). row_in (put_mid from k t ys) (n + i)) (sym whole) ∙ get_or-append-add (take from t) (ys ++ post_of from k t) i empty_row
+
+      within : (i : ℕ) → i < count → row_in (put_mid from k t ys) (from + i) ≡ grown a lower (row_in t (from + i))
+      within i l =
+          at i ∙ get_or_append_left ys (post_of from k t) empty_row i (omega (arith, mid_long, g.long)) ∙ g.inside i (omega (arith, mid_long))
+          ∙ ap (grown a lower) (get_or-take k (drop from t) i empty_row (omega arith) ∙ get_or-drop from t i empty_row)
+
+      past : (i : ℕ) → row_in (put_mid from k t ys) (from + (k + i)) ≡ row_in t (from + (k + i))
+      past i =
+          at (k + i) ∙ ap (λ (n : ℕ). row_in (ys ++ post_of from k t) (n + i)) (sym (g.long ∙ mid_long)) ∙ get_or-append-add ys (post_of from k t) i empty_row
+          ∙ get_or-drop k (drop from t) i empty_row ∙ get_or-drop from t (k + i) empty_row
+
+pub ruleset grows = (grow_in, grow_out, start_none, start_more, start_done)
 
 -- what a grown row holds is what the model's one more query makes of it
 holds_grown : (y : Atom) (l r : Row) (a : Atom) → holds (grown y l r) a ≡ holds r a || (holds l a && holds r y)
@@ -87,7 +101,7 @@ same : {a b c a' b' c' : Bool} → a ≡ a' → b ≡ b' → c ≡ c' → (a || 
 same p q r = rw (p, q, r)
 
 -- the runs over roles, viewers, trusters and everyone
-pub all_grew : (a : Atom) (lower : Row) (n : ℕ) (t t₁ t₂ t₃ u : List ℕ) → n ≤ role_limit → Grew a lower 0 n t t₁ → Grew a lower viewers_at n t₁ t₂
+pub all_grew : (a : Atom) (lower : Row) (n : ℕ) (t t₁ t₂ t₃ u : Table) → n ≤ role_limit → Grew a lower 0 n t t₁ → Grew a lower viewers_at n t₁ t₂
     → Grew a lower trusters_at n t₂ t₃ → Grew a lower everyone_at 1 t₃ u → AllGrew a lower n t u
 all_grew a lower n t t₁ t₂ t₃ u few g₁ g₂ g₃ g₄ = record { long = g₄.long; row = row }
   where
@@ -105,7 +119,7 @@ all_grew a lower n t t₁ t₂ t₃ u few g₁ g₂ g₃ g₄ = record { long = 
         ∙ ap (grown a lower) (g₃.after everyone_at (omega arith) ∙ g₂.after everyone_at (omega arith) ∙ g₁.after everyone_at (omega arith))
 
 -- the first atom's row was read before any row grew; the code has the number of roles as the wider number m
-module _ (n m : ℕ) (a b : CodeAtom) (t u : List ℕ) (lower : Row) (few : n ≤ role_limit) (e : m ≡ n) (d : lower ≡ row_in t (index_of a)) (all : AllGrew (model_atom b) lower m t u) where
+module _ (n m : ℕ) (a b : CodeAtom) (t u : Table) (lower : Row) (few : n ≤ role_limit) (e : m ≡ n) (d : lower ≡ row_in t (index_of a)) (all : AllGrew (model_atom b) lower m t u) where
   pub learn_done : Learnt n t u (query_of a b)
   unfolding Learnt at_most
   learn_done s known ok r fits knows = record { long = all.long; decides = decided }
@@ -122,7 +136,7 @@ module _ (n m : ℕ) (a b : CodeAtom) (t u : List ℕ) (lower : Row) (few : n �
           (knows.decides (model_atom b) y (rw (← r) at fits.1) hy)
 
 -- the second atom's row holds the first atom or not
-pub query_decided : (t : List ℕ) (a b : CodeAtom) (o : Row) (r : Bool) → o ≡ row_in t (index_of b) → r ≡ holds o (model_atom a) → DecidesQuery t (query_of a b) r
+pub query_decided : (t : Table) (a b : CodeAtom) (o : Row) (r : Bool) → o ≡ row_in t (index_of b) → r ≡ holds o (model_atom a) → DecidesQuery t (query_of a b) r
 unfolding DecidesQuery
 query_decided t a b o r e f s known ok fits knows =
     f ∙ ap (λ (x : Row). holds x (model_atom a)) (e ∙ rw (index_is (roles s) b (accepted_facts s ok).roles_fit fits.1))
@@ -141,7 +155,7 @@ adds_nothing s known q h a b =
         (chain (test_derivable s known a q.first x.0) (chain (test_derivable s known q.first q.second h) (test_derivable s known q.second b x.1)))
 
 -- so the table itself is the one that knows it too
-pub known_learnt : (n : ℕ) (t : List ℕ) (q : Query) (r : Bool) → DecidesQuery t q r → r ≡ true → Learnt n t t q
+pub known_learnt : (n : ℕ) (t : Table) (q : Query) (r : Bool) → DecidesQuery t q r → r ≡ true → Learnt n t t q
 unfolding Learnt DecidesQuery
 known_learnt n t q r f e s known ok m fits knows =
     let h : at_most s known q.first q.second ≡ true = sym (f s known ok (rw (← m) at fits) knows) ∙ e in

@@ -1,62 +1,69 @@
 -- How the table with no query known comes about: words read from the fixed part, and rows made from them.
-use Rattle.std.specs.Prelude.{ℕ, zero, suc, ◌+◌, ◌<◌, ◌≡◌, List, Bool, true, cond, length, get_or}
+use Rattle.std.specs.Prelude.{ℕ, zero, suc, ◌+◌, ◌<◌, ◌≡◌, List, cond, length, get_or}
 use Rattle.model.specs.Limits.{role_limit}
 use Rattle.model.specs.Sets.{within, with}
-use Rattle.model.specs.Policy.{Side, reading, trust, roles, watchers, Accepted}
+use Rattle.model.specs.Policy.{Side, reading, trust, roles, viewers, trusters, Accepted}
 use Rattle.model.specs.Syntax.{Atom}
 use Rattle.model.specs.Fits.{AtomFits}
 use Rattle.model.specs.Order.{base}
 use Rattle.order.specs.declared.table.Row.{Row}
-use Rattle.order.specs.Table.{viewers_at, trusters_at, table_words, row_of, row_in, union, with_role, row_has}
+use Rattle.order.specs.declared.base.Words.{Words}
+use Rattle.order.specs.declared.base.Watchers.{Watchers}
+use Rattle.order.specs.declared.base.WatcherRows.{WatcherRows}
+use Rattle.order.specs.Table.{viewers_at, trusters_at, Table, table_rows, row_of, row_in, union, with_role, row_has}
 
--- words that are the viewers (trusters) of the first n roles
-pub record Loaded (s : List ℕ) (side : Side) (n : ℕ) (words : List ℕ) : Type 0 where
-  pub room : length words ≡ role_limit
-  pub right : (j : ℕ) → j < n → get_or words j 0 ≡ watchers side s j
+-- the word of a role's viewers (trusters)
+abbrev pub word : Side → Watchers → ℕ
+word reading w = w.viewers
+word trust w = w.trusters
 
--- the words v and w are the viewers and the trusters of the n roles of a policy
-pub record WordsOf (s : List ℕ) (n : ℕ) (v w : List ℕ) : Type 0 where
-  pub roles_are : n ≡ roles s
-  pub viewers_are : Loaded s reading n v
-  pub trusters_are : Loaded s trust n w
+-- the words of role j
+abbrev pub words_at : Words → ℕ → Watchers
+words_at ws j = record { viewers = get_or ws.viewers j 0; trusters = get_or ws.trusters j 0 }
+
+-- the viewers and the trusters of role j of a policy
+abbrev pub watchers_of : List ℕ → ℕ → Watchers
+watchers_of s j = record { viewers = viewers s j; trusters = trusters s j }
+
+-- words that are the viewers and the trusters of the first n roles of a policy
+pub record Loaded (s : List ℕ) (n : ℕ) (ws : Words) : Type 0 where
+  pub roles_are : ws.count ≡ roles s
+  pub viewers_room : length ws.viewers ≡ role_limit
+  pub trusters_room : length ws.trusters ≡ role_limit
+  pub right : (j : ℕ) → j < n → words_at ws j ≡ watchers_of s j
+
+-- words that are those of all its roles
+abbrev pub WordsOf : List ℕ → Words → Type 0
+WordsOf s ws = Loaded s (roles s) ws
 
 -- those of the first n roles whose word holds the whole set low
-unfoldable pub holders : List ℕ → ℕ → ℕ → ℕ
-holders words low zero = 0
-holders words low (suc n) = cond (within low (get_or words n 0)) (with (holders words low n) n) (holders words low n)
+unfoldable pub holders : Side → Words → ℕ → ℕ → ℕ
+holders side ws low zero = 0
+holders side ws low (suc n) = cond (within low (word side (words_at ws n))) (with (holders side ws low n) n) (holders side ws low n)
 
--- the row of an atom that stands for the set low, by the words v of viewers and w of trusters
-abbrev pub fixed_row : List ℕ → List ℕ → ℕ → ℕ → Row
-fixed_row v w n low = record { roles = 0; viewers = holders v low n; trusters = holders w low n }
+-- the row of an atom that stands for the set low
+abbrev pub fixed_row : Words → ℕ → Row
+fixed_row ws low = record { roles = 0; viewers = holders reading ws low ws.count; trusters = holders trust ws low ws.count }
 
--- u is the table t with new rows for role j, its viewers (x) and its trusters (y)
-pub record RoleRows (x y : Row) (j : ℕ) (t u : List ℕ) : Type 0 where
-  pub long : length u ≡ table_words
-  pub viewers_row : row_in u (viewers_at + j) ≡ x
-  pub trusters_row : row_in u (trusters_at + j) ≡ y
-  pub role_row : row_in u j ≡ with_role (union x y) j
+-- u is the table t with new rows for role j, its viewers and its trusters
+pub record RoleRows (x : WatcherRows) (j : ℕ) (t u : Table) : Type 0 where
+  pub long : length u ≡ table_rows
+  pub viewers_row : row_in u (viewers_at + j) ≡ x.viewers
+  pub trusters_row : row_in u (trusters_at + j) ≡ x.trusters
+  pub role_row : row_in u j ≡ with_role (union x.viewers x.trusters) j
   pub others : (y : ℕ) → (y ≡ j → ⊥) → (y ≡ viewers_at + j → ⊥) → (y ≡ trusters_at + j → ⊥) → row_in u y ≡ row_in t y
 
--- x and y are the rows of the viewers and the trusters of role j
-pub record RowsOf (v w : List ℕ) (n j : ℕ) (x y : Row) : Type 0 where
-  pub by_viewers : x ≡ fixed_row v w n (get_or v j 0)
-  pub by_trusters : y ≡ fixed_row v w n (get_or w j 0)
-
--- roles i and j have the same words
-pub record Alike (v w : List ℕ) (i j : ℕ) : Type 0 where
-  pub viewers_same : get_or v i 0 ≡ get_or v j 0
-  pub trusters_same : get_or w i 0 ≡ get_or w j 0
-
--- r is true only then
-unfoldable pub FindsAlike : List ℕ → List ℕ → ℕ → ℕ → Bool → Type 0
-FindsAlike v w i j r = r ≡ true → Alike v w i j
+-- the rows of a role's viewers and trusters, whose words are w
+pub record RowsOf (ws : Words) (w : Watchers) (x : WatcherRows) : Type 0 where
+  pub by_viewers : x.viewers ≡ fixed_row ws w.viewers
+  pub by_trusters : x.trusters ≡ fixed_row ws w.trusters
 
 -- a table whose rows of everyone and of the first n roles' atoms are those of no known query
-pub record Based (s : List ℕ) (n : ℕ) (t : List ℕ) : Type 0 where
-  pub long : length t ≡ table_words
+pub record Based (s : List ℕ) (n : ℕ) (t : Table) : Type 0 where
+  pub long : length t ≡ table_rows
   pub right : (a b : Atom) → AtomFits (roles s) a → AtomFits n b → row_has t (row_of b) a ≡ base s a b
 
--- if t has the rows of everyone and of the first i roles' atoms, u has those of everyone and of the first j roles' atoms
-pub record Filled (v w : List ℕ) (n i j : ℕ) (t u : List ℕ) : Type 0 where
-  pub long : length u ≡ table_words
-  pub grows : (s : List ℕ) → Accepted s → WordsOf s n v w → Based s i t → Based s j u
+-- if t has the row of everyone, u has that and those of the first j roles' atoms
+pub record Filled (ws : Words) (j : ℕ) (t u : Table) : Type 0 where
+  pub long : length u ≡ table_rows
+  pub grows : (s : List ℕ) → Accepted s → WordsOf s ws → Based s 0 t → Based s j u

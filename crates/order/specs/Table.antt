@@ -1,5 +1,5 @@
--- The order between labels as a table of words: row b holds, as bits, the atoms that are at most b.
-use Rattle.std.specs.Prelude.{ℕ, ◌+◌, ◌*◌, ◌≡◌, Bool, true, cond, ltb, length, get_or, set}
+-- The order between labels as a table of rows: row b holds, as bits, the atoms that are at most b.
+use Rattle.std.specs.Prelude.{ℕ, ◌+◌, ◌*◌, ◌≡◌, Bool, true, cond, ltb, length, get_or}
 use mathlib.Core.List.{List, [], ◌∷◌, Memᴰ}
 use Rattle.std.specs.Int.Bits.{bit_or}
 use Rattle.model.specs.Limits.{role_limit}
@@ -24,12 +24,13 @@ trusters_at = 2 * role_limit
 abbrev pub everyone_at : ℕ
 everyone_at = 3 * role_limit
 
--- how many rows a table has, one for each atom, 193, and how many words, three for each row
+-- a table, one row after the other
+abbrev pub Table : Type 0
+Table = List Row
+
+-- how many rows a table has, one for each atom, 193
 abbrev pub table_rows : ℕ
 table_rows = everyone_at + 1
-
-abbrev pub table_words : ℕ
-table_words = 3 * table_rows
 
 -- an atom's row
 abbrev pub row_of : Atom → ℕ
@@ -49,13 +50,13 @@ index_of (Viewers j) = slot viewers_at j
 index_of (Trusters j) = slot trusters_at j
 index_of Everyone = everyone_at
 
--- row y: a word each for roles, viewers and trusters
-abbrev pub row_in : List ℕ → ℕ → Row
-row_in t y = record { roles = get_or t (3 * y) 0; viewers = get_or t (3 * y + 1) 0; trusters = get_or t (3 * y + 2) 0 }
+-- a row that no atom is in
+abbrev pub empty_row : Row
+empty_row = record { roles = 0; viewers = 0; trusters = 0 }
 
--- the table with row y replaced
-unfoldable pub put_row : List ℕ → ℕ → Row → List ℕ
-put_row t y r = set (set (set t (3 * y) r.roles) (3 * y + 1) r.viewers) (3 * y + 2) r.trusters
+-- row y
+abbrev pub row_in : Table → ℕ → Row
+row_in t y = get_or t y empty_row
 
 -- the roles whose viewers (trusters) are in a row
 abbrev pub watched : Side → Row → ℕ
@@ -77,12 +78,12 @@ abbrev pub with_role : Row → ℕ → Row
 with_role r j = record { roles = with r.roles j; viewers = r.viewers; trusters = r.trusters }
 
 -- whether an atom is in row y
-abbrev pub row_has : List ℕ → ℕ → Atom → Bool
+abbrev pub row_has : Table → ℕ → Atom → Bool
 row_has t y a = holds (row_in t y) a
 
 -- the table of a policy under known queries
-pub record Knows (s : List ℕ) (known : List Query) (t : List ℕ) : Type 0 where
-  pub long : length t ≡ table_words
+pub record Knows (s : List ℕ) (known : List Query) (t : Table) : Type 0 where
+  pub long : length t ≡ table_rows
   pub decides : (a b : Atom) → AtomFits (roles s) a → AtomFits (roles s) b → row_has t (row_of b) a ≡ at_most s known a b
 
 -- a join on one side as two words: its roles, and the roles whose viewers (trusters) are in it; everyone may be left out
@@ -115,17 +116,17 @@ abbrev pub query_of : CodeAtom → CodeAtom → Query
 query_of a b = record { first = model_atom a; second = model_atom b }
 
 -- u is the table t, of a policy with n roles, with one more query known
-unfoldable pub Learnt : ℕ → List ℕ → List ℕ → Query → Type 0
+unfoldable pub Learnt : ℕ → Table → Table → Query → Type 0
 Learnt n t u q =
     (s : List ℕ) (known : List Query) → Accepted s → roles s ≡ n → QueryFits n q → Knows s known t → Knows s (q ∷ known) u
 
 -- r says whether a query's first atom is at most its second, by the table t
-unfoldable pub DecidesQuery : List ℕ → Query → Bool → Type 0
+unfoldable pub DecidesQuery : Table → Query → Bool → Type 0
 DecidesQuery t q r =
     (s : List ℕ) (known : List Query) → Accepted s → QueryFits (roles s) q → Knows s known t → r ≡ at_most s known q.first q.second
 
 -- r says whether a join that two words stand for is at most the atom b, by the table t
-unfoldable pub Decides : List ℕ → Side → ℕ → ℕ → Atom → Bool → Type 0
+unfoldable pub Decides : Table → Side → ℕ → ℕ → Atom → Bool → Type 0
 Decides t side rs ws b r =
     (s : List ℕ) (known : List Query) (join : List Atom) → Accepted s → Knows s known t
     → Joins side join rs ws → JoinBelow (roles s) join → AtomFits (roles s) b → r ≡ join_at_most s known join b

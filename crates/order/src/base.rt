@@ -1,78 +1,90 @@
 // The table with no query known: reflexivity, a role's viewers and trusters at most that role, and inclusion between the
 // sets of viewers, trusters and everyone. It uses only the fixed part, and reads viewers and trusters once, into words from
 // which every row is made.
-ghost use Rattle.std.specs.Prelude.{◌≡◌, [], ◌+◌, ◌-◌, ◌^◌, ◌<◌, ◌≤◌, length};
-ghost use Rattle.model.specs.Limits.{role_limit};
-ghost use Rattle.model.specs.Policy.{Accepted, roles, HasRow, watchers};
-ghost use Rattle.program.specs.Layout.{side_of};
-ghost use Rattle.order.specs.Table.{table_words, union, with_role, Knows};
-ghost use Rattle.order.specs.Base.{Loaded, WordsOf, holders, fixed_row, RoleRows, RowsOf, FindsAlike, Filled};
+ghost use Rattle.std.specs.Prelude.{◌≡◌, [], ◌-◌, ◌^◌, ◌<◌, ◌≤◌, cond};
+ghost use Rattle.model.specs.Limits.{principal_limit, role_limit};
+ghost use Rattle.model.specs.Sets.{within, with};
+ghost use Rattle.model.specs.Policy.{Accepted, roles};
+ghost use Rattle.order.specs.Table.{union, with_role, Knows};
+ghost use Rattle.order.specs.Base.{words_at, WordsOf, fixed_row, RoleRows, RowsOf, Filled};
 
 use super::table;
-use super::table::Row;
+use super::table::{Row, Table};
 use policy::rows;
-use shared::{bytes, sets};
+use shared::sets;
 
-// The viewers of role j, or on the trust side its trusters.
-fn watchers_of(policy: &[u8], trust: bool, j: usize) -> u32
-    requires { HasRow policy.now j }
-    ensures { result ≡ watchers (side_of trust) policy.now j }
-{
-    if trust {
-        return rows::trusters_of(policy, j);
-    }
-    rows::viewers_of(policy, j)
+// The viewers and the trusters of the roles that there are, `count`, a word for each.
+// Kept: two arrays. With one array of pairs, tried, a pass over 64 roles takes 1.26 times as long; with words of 64 bits, a
+// verdict under 64 roles that all differ takes 1.13 times as long.
+#[derive(Drop)]
+struct Words {
+    viewers: [u32; table::ROLES],
+    trusters: [u32; table::ROLES],
+    count: usize,
 }
 
-// The viewers (trusters) of the roles that there are, a word for each. Of 32 bits: with 64, a verdict under 64 roles that all
-// differ takes 1.13 times as long.
-fn load_watchers(policy: &[u8], trust: bool, count: usize, words: &mut [u32; table::ROLES])
-    requires { (Accepted policy.now) × (count ≡ roles policy.now) × (length words.old ≡ role_limit) }
-    ensures { Loaded policy.now (side_of trust) count words.new }
-{
-    let mut j = 0;
-    while j < count {
-        words[j] = watchers_of(policy, trust, j);
-        j += 1;
-    }
+// The words of a role.
+#[derive(Clone, Copy, PartialEq, Eq)]
+struct Watchers {
+    viewers: u32,
+    trusters: u32,
 }
 
-// A word in 64 bits. That it is below 2^32 is known of a parameter, and would be lost in a cast of an array's element.
-fn wide(word: u32) -> u64
-    ensures { result ≡ word }
-{
-    word as u64
+// The row of a role's viewers, and that of its trusters.
+#[derive(Clone, Copy)]
+struct WatcherRows {
+    viewers: Row,
+    trusters: Row,
+}
+
+impl Words {
+    // Reads those of a policy, in place: returned, they would be copied.
+    #[tactic(auto, using(crate::proofs::BaseLaws::facts, crate::proofs::BaseLaws::loads))]
+    fn load(&mut self, policy: &[u8])
+        requires { (Accepted policy.now) × (self.old.count ≡ roles policy.now) }
+        ensures { WordsOf policy.now self.new }
+    {
+        for j in 0..self.count {
+            self.viewers[j] = rows::viewers_of(policy, j);
+            self.trusters[j] = rows::trusters_of(policy, j);
+        }
+    }
+
+    // Those of role j.
+    fn at(&self, j: usize) -> Watchers
+        requires { j < role_limit }
+        ensures { result ≡ words_at self.now j }
+    {
+        Watchers {
+            viewers: self.viewers[j],
+            trusters: self.trusters[j],
+        }
+    }
 }
 
 // `found` with role j, where `low` lies in its viewers (trusters): these are then at most an atom whose set is `low`.
-fn with_holder(words: &[u32; table::ROLES], low: u64, j: usize, found: u64) -> u64
-    requires { (j < role_limit) × (found ≡ holders words.now low j) }
-    ensures { result ≡ holders words.now low (j + 1) }
+fn with_holder(found: u64, low: u32, word: u32, j: usize) -> u64
+    requires { j < role_limit }
+    ensures { result ≡ cond (within low word) (with found j) found }
 {
-    if sets::subset(low, wide(words[j])) {
-        return found | sets::single(j as u64);
+    if sets::subset(u64::from(low), u64::from(word)) {
+        return sets::with(found, j as u64);
     }
     found
 }
 
 // The row of viewers, trusters or everyone with the set `low`: the roles whose viewers, and those whose trusters, are at most
 // such an atom. No role is. One pass for both: with a pass for each, that verdict takes 1.3 times as long.
-fn fixed_row(
-    viewers: &[u32; table::ROLES],
-    trusters: &[u32; table::ROLES],
-    count: usize,
-    low: u64,
-) -> Row
-    requires { count ≤ role_limit }
-    ensures { result ≡ fixed_row viewers.now trusters.now count low }
+#[tactic(auto, using(crate::proofs::BaseLaws::holder_laws))]
+fn fixed_row(words: &Words, low: u32) -> Row
+    requires { words.now.count ≤ role_limit }
+    ensures { result ≡ fixed_row words.now low }
 {
     let mut seen = 0;
     let mut trusted = 0;
-    let mut j = 0;
-    while j < count {
-        seen = with_holder(viewers, low, j, seen);
-        trusted = with_holder(trusters, low, j, trusted);
-        j += 1;
+    for j in 0..words.count {
+        seen = with_holder(seen, low, words.viewers[j], j);
+        trusted = with_holder(trusted, low, words.trusters[j], j);
     }
     Row {
         roles: 0,
@@ -82,174 +94,122 @@ fn fixed_row(
 }
 
 // All of n principals.
-fn all_of(n: u64) -> u64
-    requires { n < 64 }
+#[tactic(auto, using(crate::proofs::BaseLaws::principal_sets))]
+fn all_of(n: u8) -> u32
+    requires { n ≤ principal_limit }
     ensures { result ≡ 2 ^ n - 1 }
 {
-    sets::single(n) - 1
+    (sets::single(u64::from(n)) - 1) as u32
+}
+
+// What rows are made from: the words of all roles, and the row of everyone, whose set is all principals.
+#[derive(Clone, Copy)]
+struct Inclusions<'a> {
+    words: &'a Words,
+    all: u32,
+    everyone: Row,
+
+    ghost few: { words.now.count ≤ role_limit },
+    ghost known: { everyone ≡ fixed_row words.now all },
+}
+
+impl Inclusions<'_> {
+    // The row of a set. A role's viewers or trusters often are all principals: everyone's row, taken over, saves the pass over
+    // all roles, 35 ns.
+    fn row_of(&self, set: u32) -> Row
+        ensures { result ≡ fixed_row self.now.words.now set }
+    {
+        if set == self.all {
+            return self.everyone;
+        }
+        fixed_row(self.words, set)
+    }
+
+    // The rows of a role's viewers and trusters. Where these are the same, one row serves for both.
+    fn rows_of(&self, watchers: Watchers) -> WatcherRows
+        ensures { RowsOf self.now.words.now watchers result }
+    {
+        let viewers = self.row_of(watchers.viewers);
+        if watchers.viewers == watchers.trusters {
+            return WatcherRows {
+                viewers,
+                trusters: viewers,
+            };
+        }
+        let trusters = self.row_of(watchers.trusters);
+        WatcherRows { viewers, trusters }
+    }
+
+    // The same, where the rows of the role before are at hand.
+    fn next_rows(&self, last: Watchers, rows: WatcherRows, watchers: Watchers) -> WatcherRows
+        requires { RowsOf self.now.words.now last rows }
+        ensures { RowsOf self.now.words.now watchers result }
+    {
+        if watchers == last {
+            return rows;
+        }
+        self.rows_of(watchers)
+    }
 }
 
 // At most a role are itself and all that is at most its viewers or its trusters.
-fn role_row(viewers: Row, trusters: Row, j: u64) -> Row
+fn role_row(rows: WatcherRows, j: u64) -> Row
     requires { j < role_limit }
-    ensures { result ≡ with_role (union viewers trusters) j }
+    ensures { result ≡ with_role (union rows.viewers rows.trusters) j }
 {
-    table::with_role(table::both(viewers, trusters), j)
+    rows.viewers.union(rows.trusters).with_role(j)
 }
 
 // The rows of role j, its viewers and its trusters, from those of the latter two.
-fn write_role(table: &mut [u64], j: usize, viewers: Row, trusters: Row)
-    requires { (length table.old ≡ table_words) × (j < role_limit) }
-    ensures { RoleRows viewers trusters j table.old table.new }
+fn write_role(table: &mut Table, j: usize, rows: WatcherRows)
+    requires { j < role_limit }
+    ensures { RoleRows rows j table.old table.new }
 {
-    table::write(table, j, role_row(viewers, trusters, j as u64));
-    table::write(table, table::VIEWERS + j, viewers);
-    table::write(table, table::TRUSTERS + j, trusters);
+    table[j] = role_row(rows, j as u64);
+    table[table::VIEWERS + j] = rows.viewers;
+    table[table::TRUSTERS + j] = rows.trusters;
 }
 
-// The row of a set, where that of everyone is known: a role's viewers or trusters often are all principals. Taken over, it
-// saves the pass over all roles, 35 ns.
-fn row_of_set(
-    viewers: &[u32; table::ROLES],
-    trusters: &[u32; table::ROLES],
-    count: usize,
-    all: u64,
-    everyone: Row,
-    low: u32,
-) -> Row
-    requires { (count ≤ role_limit) × (everyone ≡ fixed_row viewers.now trusters.now count all) }
-    ensures { result ≡ fixed_row viewers.now trusters.now count low }
+// The rows of all roles, their viewers and their trusters. The first role is held against everyone.
+#[tactic(auto, using(crate::proofs::BaseLaws::fills))]
+fn write_roles(table: &mut Table, inclusions: &Inclusions)
+    ensures { Filled inclusions.now.words.now inclusions.now.words.now.count table.old table.new }
 {
-    let set = wide(low);
-    if set == all {
-        return everyone;
-    }
-    fixed_row(viewers, trusters, count, set)
-}
-
-// Whether role j has the viewers and the trusters of role `first`.
-fn is_alike(
-    viewers: &[u32; table::ROLES],
-    trusters: &[u32; table::ROLES],
-    first: usize,
-    j: usize,
-) -> bool
-    requires { (first < role_limit) × (j < role_limit) }
-    ensures { FindsAlike viewers.now trusters.now first j result }
-{
-    if viewers[first] == viewers[j] {
-        return trusters[first] == trusters[j];
-    }
-    false
-}
-
-// The rows of role `first` and of the roles right after it that have its viewers and trusters, hence the same rows of these;
-// then the first role past them. So the rows stay in registers: to read back those of the role before took 100 ns for 64 roles.
-fn write_alike(
-    table: &mut [u64],
-    viewers: &[u32; table::ROLES],
-    trusters: &[u32; table::ROLES],
-    count: usize,
-    first: usize,
-    viewing: Row,
-    trusting: Row,
-) -> usize
-    requires { (length table.old ≡ table_words) × (count ≤ role_limit) × (first < count) × (RowsOf viewers.now trusters.now count first viewing trusting) }
-    ensures further { first < result }
-    ensures inside { result ≤ count }
-    ensures filled { Filled viewers.now trusters.now count first result table.old table.new }
-{
-    write_role(table, first, viewing, trusting);
-    let mut j = first + 1;
-    while j < count {
-        if is_alike(viewers, trusters, first, j) {
-            write_role(table, j, viewing, trusting);
-        } else {
-            return j;
-        }
-        j += 1;
-    }
-    count
-}
-
-// These rows, made from the words. Where a role's viewers are its trusters, one row serves for both.
-fn next_roles(
-    table: &mut [u64],
-    viewers: &[u32; table::ROLES],
-    trusters: &[u32; table::ROLES],
-    count: usize,
-    all: u64,
-    everyone: Row,
-    first: usize,
-) -> usize
-    requires { (length table.old ≡ table_words) × (count ≤ role_limit) × (first < count) × (everyone ≡ fixed_row viewers.now trusters.now count all) }
-    ensures further { first < result }
-    ensures inside { result ≤ count }
-    ensures filled { Filled viewers.now trusters.now count first result table.old table.new }
-{
-    let by_viewers = row_of_set(viewers, trusters, count, all, everyone, viewers[first]);
-    if viewers[first] == trusters[first] {
-        return write_alike(
-            table, viewers, trusters, count, first, by_viewers, by_viewers,
-        );
-    }
-    let by_trusters = row_of_set(viewers, trusters, count, all, everyone, trusters[first]);
-    write_alike(
-        table,
-        viewers,
-        trusters,
-        count,
-        first,
-        by_viewers,
-        by_trusters,
-    )
-}
-
-// The rows of all roles, their viewers and their trusters.
-fn write_roles(
-    table: &mut [u64],
-    viewers: &[u32; table::ROLES],
-    trusters: &[u32; table::ROLES],
-    count: usize,
-    all: u64,
-    everyone: Row,
-)
-    requires { (length table.old ≡ table_words) × (count ≤ role_limit) × (everyone ≡ fixed_row viewers.now trusters.now count all) }
-    ensures { Filled viewers.now trusters.now count 0 count table.old table.new }
-{
-    let mut j = 0;
-    while j < count {
-        j = next_roles(table, viewers, trusters, count, all, everyone, j);
+    let mut last = Watchers {
+        viewers: inclusions.all,
+        trusters: inclusions.all,
+    };
+    let mut rows = WatcherRows {
+        viewers: inclusions.everyone,
+        trusters: inclusions.everyone,
+    };
+    for j in 0..inclusions.words.count {
+        let watchers = inclusions.words.at(j);
+        rows = inclusions.next_rows(last, rows, watchers);
+        last = watchers;
+        write_role(table, j, rows);
     }
 }
 
-// All rows, from the words of viewers and trusters. Everyone is all principals. Rows of roles that there are not stay as they
-// were.
-fn write_rows(
-    policy: &[u8],
-    table: &mut [u64],
-    viewers: &[u32; table::ROLES],
-    trusters: &[u32; table::ROLES],
-    count: usize,
-)
-    requires { (Accepted policy.now) × (WordsOf policy.now count viewers.now trusters.now) × (length table.old ≡ table_words) }
+// The table with no query known. Everyone is all principals.
+#[tactic(auto, using(crate::proofs::BaseLaws::facts, crate::proofs::BaseLaws::based))]
+pub fn base_table(policy: &[u8], table: &mut Table)
+    requires { Accepted policy.now }
     ensures { Knows policy.now [] table.new }
 {
-    let all = all_of(bytes::wide(rows::principals_of(policy)) as u64);
-    let everyone = fixed_row(viewers, trusters, count, all);
-    table::write(table, table::EVERYONE, everyone);
-    write_roles(table, viewers, trusters, count, all, everyone);
-}
-
-// The table with no query known.
-pub fn base_table(policy: &[u8], table: &mut [u64])
-    requires { (Accepted policy.now) × (length table.old ≡ table_words) }
-    ensures { Knows policy.now [] table.new }
-{
-    let count = bytes::wide(rows::roles_of(policy)) as usize;
-    let mut viewers = [0u32; table::ROLES];
-    let mut trusters = [0u32; table::ROLES];
-    load_watchers(policy, false, count, &mut viewers);
-    load_watchers(policy, true, count, &mut trusters);
-    write_rows(policy, table, &viewers, &trusters, count);
+    let mut words = Words {
+        viewers: [0; table::ROLES],
+        trusters: [0; table::ROLES],
+        count: usize::from(rows::roles_of(policy)),
+    };
+    words.load(policy);
+    let all = all_of(rows::principals_of(policy));
+    let everyone = fixed_row(&words, all);
+    table[table::EVERYONE] = everyone;
+    let inclusions = Inclusions {
+        words: &words,
+        all,
+        everyone,
+    };
+    write_roles(table, &inclusions);
 }

@@ -1,21 +1,22 @@
 // Whether a join of atoms is at most an atom: each of its atoms is in that atom's row.
-ghost use Rattle.std.specs.Prelude.{◌≡◌, length};
+ghost use Rattle.std.specs.Prelude.{◌≡◌};
 ghost use Rattle.program.specs.Codes.{model_atom};
-ghost use Rattle.program.specs.Layout.{side_of};
-ghost use Rattle.order.specs.Table.{table_words, Decides};
+ghost use Rattle.shared.specs.Sides.{model_side};
+ghost use Rattle.order.specs.Table.{Decides};
 
 use super::table;
+use super::table::Table;
 use program::codes::Atom;
 use shared::sets;
+use shared::side::Side;
 
 // On the reading side, or the trust side: the join's roles `rs`, and the roles `ws` whose viewers (trusters) are in it.
-pub fn join_below(table: &[u64], rs: u64, ws: u64, trust: bool, target: Atom) -> bool
-    requires { length table.now ≡ table_words }
-    ensures { Decides table.now (side_of trust) rs ws (model_atom target) result }
+pub fn join_below(table: &Table, rs: u64, ws: u64, side: Side, target: Atom) -> bool
+    ensures { Decides table.now (model_side side) rs ws (model_atom target) result }
 {
     let row = table::row_of(table, target);
     if !sets::subset(rs, row.roles) {
         return false;
     }
-    sets::subset(ws, table::watched(row, trust))
+    sets::subset(ws, row.watched(side))
 }

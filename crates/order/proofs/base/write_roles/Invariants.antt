@@ -1,11 +1,6 @@
--- The loop's invariant: the rows of the roles passed are there.
-use Rattle.std.proofs.Common.{◌-◌, ◌≤◌}
-use Rattle.order.specs.Base.{Filled}
+-- The loop's invariant: the rows of the roles passed are there, and the rows at hand are those of the last words.
+use Rattle.order.specs.Base.{RowsOf, Filled}
 use Rattle.order.proofs.base.write_roles.Given as goal
 
 abbrev pub invariant-loop-j : goal.invariant-loop-j
-invariant-loop-j l = (l.j ≤ l.count) × Filled l.viewers l.trusters l.count 0 l.j l.initial.table l.table
-
--- proposed from the loop's first test
-abbrev pub decreases-loop-j : goal.decreases-loop-j
-decreases-loop-j l = l.count - l.j
+invariant-loop-j l = RowsOf l.inclusions.words.now l.last l.rows × Filled l.inclusions.words.now l.j l.initial.table l.table

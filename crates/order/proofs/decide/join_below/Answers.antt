@@ -2,10 +2,8 @@ use Rattle.std.proofs.Common.{rules}
 use Rattle.order.proofs.DecideLaws.{decisions}
 use Rattle.order.proofs.decide.join_below.Goals as goal
 
--- src/decide.rt:18:9
 pub returns-then-not-subset : goal.returns-then-not-subset
 returns-then-not-subset c = search (rules, decisions)
 
--- src/decide.rt:12:1
 pub returns : goal.returns
 returns c = search (rules, decisions)
