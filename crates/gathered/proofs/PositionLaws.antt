@@ -1,55 +1,45 @@
 -- A law for each return of positions.rt, and what a position ahead is where a tree was read.
+use Rattle.std.proofs.Common.{Result, Ok, Err}
+use Rattle.std.specs.Result.{result_eq}
 use mathlib.Core.Path.{◌≡◌, refl, sym, ap, ◌∙◌}
-use Prim.Native.Nat.{ℕ, ◌+◌, ◌-◌, ◌*◌, ◌<◌, ◌≤◌}
+use Prim.Native.Nat.{ℕ, ◌+◌, ◌-◌, ◌*◌, ◌^◌, ◌<◌, ◌≤◌, min}
 use mathlib.Core.List.{List}
-use mathlib.Core.Bool.{cond}
+use mathlib.Core.Bool.{Bool, cond}
 use native.Mathlib.Omega.{arith}
 use native.Mathlib.Nat.{mul-le-mul}
 use mir.Val.{Fits}
 use mir.Syntax.{w64}
 use lib.Dec.{eqb}
 use lib.ListN.{length}
-use borrow.Author.Tests.{le-leb, lt-leb}
+use borrow.Author.Tests.{le-leb, ne_eqb}
 use Rattle.model.specs.Bytes.{byte}
 use Rattle.model.specs.Mutation.{Kind as ModelKind, addMember, deleteMember, addTaken, deleteTaken, Mutation}
 use Rattle.model.specs.Program.{got, read_mutation}
-use Rattle.shared.proofs.ByteLaws.{byte_past}
 use Rattle.gathered.specs.Positions.{ahead, after_list, ExprEnds}
 use Rattle.model.proofs.Standing.{kind_code, mutation_parts, operator_code, expr_deep, expr_there, expr_known, constant_parts, variable_parts, binary_parts}
 use Rattle.program.specs.declared.codes.Operator.{Operator}
 use Rattle.program.specs.declared.codes.Operator.TheVariants.{Sum, Difference, Product, Quotient, Less, Equal}
 use Rattle.program.specs.declared.codes.Expression.{Expression}
 use Rattle.program.specs.declared.codes.Expression.TheVariants.{Constant, Variable, Binary}
-use Rattle.program.specs.declared.codes.ExpressionOf.{ExpressionOf}
-use Rattle.program.specs.declared.codes.ExpressionOf.TheVariants as expression
-use Rattle.program.specs.declared.codes.AtomOf.{AtomOf}
 use Rattle.program.specs.declared.codes.Kind.{Kind}
 use Rattle.program.specs.declared.codes.Kind.TheVariants.{AddMember, DeleteMember, AddTaken, DeleteTaken}
-use Rattle.program.specs.declared.codes.KindOf.{KindOf}
-use Rattle.program.specs.declared.codes.KindOf.TheVariants as kind
-use Rattle.program.specs.declared.codes.StatementOf.{StatementOf}
-use Rattle.program.specs.Codes.{statement_of, atom_of, kind_of, kind_byte, model_kind, expression_of, operator_byte, expression_byte, model_operator}
-use Rattle.program.proofs.CodeLaws.{kind_byte_lem, kind_none, expression_byte_lem, expression_none}
+use Rattle.program.specs.Codes.{statement_of, statement_byte, kind_of, kind_byte, model_kind, expression_of, operator_byte, expression_byte, model_operator}
+use Rattle.program.proofs.CodeLaws.{kind_byte_lem, kind_none, statement_byte_lem, statement_none, expression_byte_lem, expression_none}
+use Rattle.program.specs.declared.codes.Statement.{Statement}
+use Rattle.program.specs.declared.codes.Statement.TheVariants.{Skip}
+use Rattle.program.specs.declared.codes.UnknownCode.{UnknownCode}
 
 -- a position ahead
 module _ (p : List ℕ) (at n : ℕ) where
-  pub ahead_out : length p < at → length p ≡ ahead p at n
+  pub ahead_clamped : (s r : ℕ) → s ≡ min (at + n) 18446744073709551615 → r ≡ min s (length p) → length p < 2 ^ 64 → r ≡ ahead p at n
   unfolding ahead
-  ahead_out h = let l : length p < at + n = omega arith in simp (lt-leb _ _ l)
-
-  pub ahead_past : at ≤ length p → length p - at < n → length p ≡ ahead p at n
-  unfolding ahead
-  ahead_past h g = let l : length p < at + n = omega arith in simp (lt-leb _ _ l)
-
-  pub ahead_there : at ≤ length p → n ≤ length p - at → at + n ≡ ahead p at n
-  unfolding ahead
-  ahead_there h g = let l : at + n ≤ length p = omega arith in simp (le-leb _ _ l)
+  ahead_clamped s r e f h = grind (arith, e, f, h)
 
   pub ahead_is : at + n ≤ length p → ahead p at n ≡ at + n
   unfolding ahead
   ahead_is l = simp (le-leb _ _ l)
 
-pub ruleset aheads = (byte_past, ahead_out, ahead_past, ahead_there)
+pub ruleset aheads = (ahead_clamped)
 
 -- a list's count is a byte, so its size fits
 list_size : (size n : ℕ) → size ≤ 3 → n < 256 → size * n ≤ 765
@@ -73,18 +63,11 @@ list_is p at size l =
     let k : at + (2 + size * byte p (at + 1)) ≡ at + 2 + size * byte p (at + 1) = omega arith in
     rw (ahead_is p at 1 (omega arith), ahead_is p at (2 + size * byte p (at + 1)) (omega arith)) k
 
--- the code that stands at a position
-pub statement_here : (p : List ℕ) (at b : ℕ) (o : StatementOf) → b ≡ byte p at → o ≡ statement_of b → o ≡ statement_of (byte p at)
-statement_here p at b o e f = rw (← e) f
-
-pub skip_here : (p : List ℕ) (at b : ℕ) → b ≡ byte p at → eqb b 0 ≡ eqb (byte p at) 0
-skip_here p at b e = rw e
-
-pub expression_here : (p : List ℕ) (at b : ℕ) (o : ExpressionOf) → b ≡ byte p at → o ≡ expression_of b → o ≡ expression_of (byte p at)
-expression_here p at b o e f = rw (← e) f
-
-pub atom_here : (p : List ℕ) (at b : ℕ) (o : AtomOf) → b ≡ byte p at → o ≡ atom_of b → o ≡ atom_of (byte p at)
-atom_here p at b o e f = rw (← e) f
+-- whether a byte's code is a skip
+pub is_skip_of : (E : Statement → Statement → Bool) (U : UnknownCode → UnknownCode → Bool) → ((c : Statement) → E c Skip ≡ eqb (statement_byte c) 0)
+    → (b : ℕ) (o : (Result Statement UnknownCode)) → o ≡ statement_of b → result_eq E U o (Ok Skip) ≡ eqb b 0
+is_skip_of E U f b (Ok c) h = rw (f c, statement_byte_lem b (Ok c) h c refl)
+is_skip_of E U f b (Err _) h = let n : b ≡ 0 → ⊥ = λ e. omega (arith, statement_none b (Err (record {})) h refl) in rw (ne_eqb b 0 n)
 
 -- an operator's code is the one that reading knows it by
 pub operator_code_lem : (op : Operator) → operator_byte op ≡ operator_code (model_operator op)
@@ -101,12 +84,12 @@ module _ (p : List ℕ) (d at : ℕ) where
   unfolding ExprEnds
   expr_none r z vars e end h = absurd (expr_deep p vars d at h z)
 
-  module _ (o : ExpressionOf) (i : o ≡ expression_of (byte p at)) where
-    pub expr_unknown : (r : ℕ) → o ≡ expression.No → ExprEnds p d at r
+  module _ (o : (Result Expression UnknownCode)) (i : o ≡ expression_of (byte p at)) where
+    pub expr_unknown : (r : ℕ) → o ≡ (Err (record {})) → ExprEnds p d at r
     unfolding ExprEnds
     expr_unknown r k vars e end h = absurd (omega (arith, expression_none (byte p at) o i k, expr_known p vars d at h))
 
-    module _ (c : Expression) (j : o ≡ expression.Is c) where
+    module _ (c : Expression) (j : o ≡ Ok c) where
       pub expr_constant : (r : ℕ) → c ≡ Constant → r ≡ ahead p at 5 → ExprEnds p d at r
       unfolding ExprEnds
       expr_constant r k q vars e end h =
@@ -150,9 +133,9 @@ code_known deleteMember = omega arith
 code_known addTaken = omega arith
 code_known deleteTaken = omega arith
 
-module _ (p : List ℕ) (P R at : ℕ) {m : Mutation} {end : ℕ} (e : read_mutation p P R at ≡ got m end) (o : KindOf) (d : o ≡ kind_of (byte p at)) where
-  pub mutation_known : o ≡ kind.No → ⊥
+module _ (p : List ℕ) (P R at : ℕ) {m : Mutation} {end : ℕ} (e : read_mutation p P R at ≡ got m end) (o : (Result Kind UnknownCode)) (d : o ≡ kind_of (byte p at)) where
+  pub mutation_known : o ≡ (Err (record {})) → ⊥
   mutation_known h = omega (arith, kind_none (byte p at) o d h, (mutation_parts p P R at e).kind_byte_lem, code_known m.kind)
 
-  pub mutation_kind : (k : Kind) → o ≡ kind.Is k → m.kind ≡ model_kind k
+  pub mutation_kind : (k : Kind) → o ≡ Ok k → m.kind ≡ model_kind k
   mutation_kind k h = sym (kind_at_lem m.kind) ∙ ap kind_at ((mutation_parts p P R at e).kind_byte_lem ∙ kind_byte_lem (byte p at) o d k h) ∙ code_kind k

@@ -1,8 +1,8 @@
 -- A law for each return of bodies.rt, and the loop: the search in what is left of a block is the search in the whole.
+use Rattle.std.proofs.Common.{Result, Ok, Err, Break, Continue}
 use mathlib.Core.Path.{◌≡◌, refl, sym, ap, ◌∙◌}
 use Prim.Native.Nat.{ℕ, zero, suc, ◌+◌, ◌-◌, ◌*◌, ◌<◌, ◌≤◌}
 use mathlib.Core.List.{List, [], ◌∷◌, ◌++◌}
-use mathlib.Core.Bool.{true, false, true≢false}
 use native.Mathlib.Omega.{arith}
 use lib.ListN.{length, get_or}
 use Rattle.model.specs.Limits.{expression_depth}
@@ -12,37 +12,45 @@ use Rattle.model.specs.Program.{got, read_many, read_stmt, block_of}
 use Rattle.model.specs.Flow.{Part, part, bodies}
 use Rattle.program.specs.declared.codes.Statement.{Statement}
 use Rattle.program.specs.declared.codes.Statement.TheVariants.{Skip, Assign, Block, If, While, Query, Update, Transaction}
-use Rattle.program.specs.declared.codes.StatementOf.{StatementOf}
-use Rattle.program.specs.declared.codes.StatementOf.TheVariants as statement
 use Rattle.program.specs.Codes.{statement_of, statement_byte}
 use Rattle.program.proofs.CodeLaws.{statement_byte_lem, statement_none}
-use Rattle.transactions.specs.declared.bodies.Found.{Found}
+use Rattle.transactions.specs.declared.span.Span.{Span}
+use Rattle.transactions.specs.declared.bodies.Passed.{Passed}
 use Rattle.gathered.specs.Positions.{ahead, after_list, ExprEnds}
+use Rattle.gathered.specs.declared.writes.Writes.{Writes}
 use Rattle.gathered.specs.Writes.{Fit, WritesAt}
-use Rattle.transactions.specs.Bodies.{none_found, one_found, found_of, FoundAt, FoundInPair, FoundInBlock, FoundInBody}
+use Rattle.transactions.specs.Bodies.{Found, none_found, found_of, FoundAt, FoundInPair, FoundInBlock, FoundInBody}
 use Rattle.model.proofs.Standing.{many_none, many_more, mutations_end, stmt_deep, stmt_there, stmt_known, skip_parts, assign_parts, block_parts, if_parts, while_parts, branch_parts, update_parts, transaction_parts}
 use Rattle.gathered.proofs.PositionLaws.{ahead_is, list_is}
+use Rattle.program.specs.declared.codes.UnknownCode.{UnknownCode}
 
 -- the search in two lists of bodies: in the first, then in the second with what the first left
 module _ (ys : List Part) (mid end : ℕ) where
-  found_stop : (xs : List Part) (k : ℕ) → (found_of xs k mid).found ≡ true → found_of xs k mid ≡ found_of (xs ++ ys) k end
+  found_stop : (xs : List Part) (k : ℕ) (s : Span) → Break s ≡ found_of xs k mid → Break s ≡ found_of (xs ++ ys) k end
   unfolding found_of
-  found_stop [] k h = absurd (true≢false (sym h))
-  found_stop (part a b ∷ xs) zero h = refl
-  found_stop (part a b ∷ xs) (suc k) h = found_stop xs k h
+  found_stop [] k s h = (cc)
+  found_stop (part a b ∷ xs) zero s h = h
+  found_stop (part a b ∷ xs) (suc k) s h = found_stop xs k s h
 
-  found_on : (xs : List Part) (k : ℕ) → (found_of xs k mid).found ≡ false → ((found_of xs k mid).next ≡ mid) × (found_of ys (found_of xs k mid).left end ≡ found_of (xs ++ ys) k end)
+  found_on : (xs : List Part) (k : ℕ) (o : Passed) → Continue o ≡ found_of xs k mid → (o.next ≡ mid) × (found_of ys o.left end ≡ found_of (xs ++ ys) k end)
   unfolding found_of
-  found_on [] k h = (refl, refl)
-  found_on (part a b ∷ xs) zero h = absurd (true≢false h)
-  found_on (part a b ∷ xs) (suc k) h = found_on xs k h
+  found_on [] k o h = let e : o ≡ record { next = mid; left = k } = (cc) in rw e (refl, refl)
+  found_on (part a b ∷ xs) zero o h = (cc)
+  found_on (part a b ∷ xs) (suc k) o h = found_on xs k o h
 
 -- where the search ends: the k-th body, and the empty part where there is none
-pub found_part : (xs : List Part) (k end : ℕ) → part (found_of xs k end).start (found_of xs k end).size ≡ get_or xs k (part 0 0)
-unfolding found_of
-found_part [] k end = refl
-found_part (part a b ∷ xs) zero end = refl
-found_part (part a b ∷ xs) (suc k) end = found_part xs k end
+module _ (end : ℕ) where
+  pub found_part : (xs : List Part) (k : ℕ) (s : Span) → Break s ≡ found_of xs k end → part s.start s.size ≡ get_or xs k (part 0 0)
+  unfolding found_of
+  found_part [] k s h = (cc)
+  found_part (part a b ∷ xs) zero s h = let e : s ≡ record { start = a; size = b } = (cc) in rw e
+  found_part (part a b ∷ xs) (suc k) s h = found_part xs k s h
+
+  pub found_empty : (xs : List Part) (k : ℕ) (o : Passed) → Continue o ≡ found_of xs k end → part 0 0 ≡ get_or xs k (part 0 0)
+  unfolding found_of
+  found_empty [] k o h = refl
+  found_empty (part a b ∷ xs) zero o h = (cc)
+  found_empty (part a b ∷ xs) (suc k) o h = found_empty xs k o h
 
 -- the statements of a block that are left, and the search in them
 pub record Searched (p : List ℕ) (P R vars d k count next left : ℕ) (xs : List Stmt) (end : ℕ) : Type 0 where
@@ -55,59 +63,53 @@ Searching p d at k count next left =
     (P R vars : ℕ) → Fit R vars → at < length p → (xs : List Stmt) (end : ℕ) → read_many (read_stmt p P R vars d) (byte p at) (at + 1) ≡ got xs end → Searched p P R vars d k count next left xs end
 
 module _ (p : List ℕ) (d at k : ℕ) where
-  pub searching_start : (count next : ℕ) → count ≡ byte p at → next ≡ ahead p at 1 → Searching p d at k count next k
+  pub searching_start : (n next : ℕ) → n ≡ byte p at → next ≡ ahead p at 1 → Searching p d at k (n - 0) next k
   unfolding Searching
-  searching_start count next e f P R vars fit l xs end h = record { rest = xs; rest_read = rw (e, f, ahead_is p at 1 (omega arith)) h; same = refl }
+  searching_start n next e f P R vars fit l xs end h =
+      let z : n - 0 ≡ byte p at = omega (arith, e) in
+      record { rest = xs; rest_read = rw (z, f, ahead_is p at 1 (omega arith)) h; same = refl }
 
-  module _ (count next left : ℕ) (inv : Searching p d at k count next left) where
-    pub searching_done : (r : Found) → count ≤ 0 → r ≡ none_found next left → FoundInBlock p d at k r
+  module _ (n i next left : ℕ) (inv : Searching p d at k (n - i) next left) where
+    pub searching_done : (r : Found) → n ≤ i → r ≡ none_found next left → FoundInBlock p d at k r
     unfolding Searching FoundInBlock block_of bodies found_of
     searching_done r none f P R vars fit l xs end h =
         let u = inv P R vars fit l xs end h in
-        let v = many_none (read_stmt p P R vars d) count next u.rest_read none in
+        let v = many_none (read_stmt p P R vars d) (n - i) next u.rest_read (omega arith) in
         f ∙ rw (← v.1) (rw v.0 at u.same)
 
-    module _ (one : Found) (some : 0 < count) (e : FoundAt p d next left one) where
-      pub searching_found : one.found ≡ true → FoundInBlock p d at k one
+    module _ (one : Found) (some : i < n) (e : FoundAt p d next left one) where
+      pub searching_found : (s : Span) → one ≡ Break s → FoundInBlock p d at k (Break s)
       unfolding Searching FoundAt FoundInBlock block_of bodies
-      searching_found t P R vars fit l xs end h =
+      searching_found s t P R vars fit l xs end h =
           let u = inv P R vars fit l xs end h in
-          let v = many_more (read_stmt p P R vars d) count next u.rest_read some in
-          let w : one ≡ found_of (bodies v.head) left v.mid = e P R vars fit v.head v.mid v.head_read in
-          w ∙ found_stop (bodies (block_of v.tail)) v.mid end (bodies v.head) left (rw w at t) ∙ rw v.is at u.same
+          let v = many_more (read_stmt p P R vars d) (n - i) next u.rest_read (omega arith) in
+          let w : Break s ≡ found_of (bodies v.head) left v.mid = sym t ∙ e P R vars fit v.head v.mid v.head_read in
+          found_stop (bodies (block_of v.tail)) v.mid end (bodies v.head) left s w ∙ rw v.is at u.same
 
-      pub searching_more : one.found ≡ false → Searching p d at k (count - 1) one.next one.left
+      pub searching_more : (o : Passed) → one ≡ Continue o → Searching p d at k (n - (i + 1)) o.next o.left
       unfolding Searching FoundAt block_of bodies
-      searching_more t P R vars fit l xs end h =
+      searching_more o t P R vars fit l xs end h =
           let u = inv P R vars fit l xs end h in
-          let v = many_more (read_stmt p P R vars d) count next u.rest_read some in
-          let w : one ≡ found_of (bodies v.head) left v.mid = e P R vars fit v.head v.mid v.head_read in
-          let o = found_on (bodies (block_of v.tail)) v.mid end (bodies v.head) left (rw w at t) in
-          record {
-            rest = v.tail;
-            rest_read = rw (w, o.0) v.tail_read;
-            same = rw w (o.1 ∙ rw v.is at u.same);
-          }
+          let v = many_more (read_stmt p P R vars d) (n - i) next u.rest_read (omega arith) in
+          let w : Continue o ≡ found_of (bodies v.head) left v.mid = sym t ∙ e P R vars fit v.head v.mid v.head_read in
+          let g = found_on (bodies (block_of v.tail)) v.mid end (bodies v.head) left o w in
+          let m : n - (i + 1) ≡ n - i - 1 = omega arith in
+          record { rest = v.tail; rest_read = rw (m, g.0) v.tail_read; same = g.1 ∙ rw v.is at u.same }
 
   -- two statements
   module _ (one : Found) (f : FoundAt p d at k one) where
-    pub pair_first : one.found ≡ true → FoundInPair p d at k one
+    pub pair_first : (s : Span) → one ≡ Break s → FoundInPair p d at k (Break s)
     unfolding FoundAt FoundInPair
-    pair_first t P R vars fit a b mid end h g =
-        let w : one ≡ found_of (bodies a) k mid = f P R vars fit a mid h in
-        w ∙ found_stop (bodies b) mid end (bodies a) k (rw w at t)
+    pair_first s t P R vars fit a b mid end h g = found_stop (bodies b) mid end (bodies a) k s (sym t ∙ f P R vars fit a mid h)
 
-    pub pair_second : (r : Found) → one.found ≡ false → FoundAt p d one.next one.left r → FoundInPair p d at k r
+    pub pair_second : (r : Found) (o : Passed) → one ≡ Continue o → FoundAt p d o.next o.left r → FoundInPair p d at k r
     unfolding FoundAt FoundInPair
-    pair_second r t s P R vars fit a b mid end h g =
-        let w : one ≡ found_of (bodies a) k mid = f P R vars fit a mid h in
-        let o = found_on (bodies b) mid end (bodies a) k (rw w at t) in
-        let y : one.next ≡ mid = rw w o.0 in
-        let z : one.left ≡ (found_of (bodies a) k mid).left = rw w in
-        s P R vars fit b end (rw y g) ∙ rw z o.1
+    pair_second r o t s P R vars fit a b mid end h g =
+        let w = found_on (bodies b) mid end (bodies a) k o (sym t ∙ f P R vars fit a mid h) in
+        s P R vars fit b end (rw w.0 g) ∙ w.1
 
   -- a transaction whose body stands here
-  pub body_here : (w v : List ℕ) (last size : ℕ) → k ≡ 0 → WritesAt p d at w v last → size ≡ last - at → FoundInBody p d at k (one_found at size)
+  pub body_here : (w v : Writes) (last size : ℕ) → k ≡ 0 → WritesAt p d at w v last → size ≡ last - at → FoundInBody p d at k (Break (record { start = at; size = size }))
   unfolding WritesAt FoundInBody found_of
   body_here w v last size z f e P R vars fit x end h = rw (z, e, (f P R vars fit x end h).0)
 
@@ -124,12 +126,12 @@ module _ (p : List ℕ) (d at k : ℕ) where
   unfolding FoundAt
   found_none r z P R vars fit x end h = absurd (stmt_deep p P R vars d at h z)
 
-  module _ (o : StatementOf) (i : o ≡ statement_of (byte p at)) where
-    pub found_unknown : (r : Found) → o ≡ statement.No → FoundAt p d at k r
+  module _ (o : (Result Statement UnknownCode)) (i : o ≡ statement_of (byte p at)) where
+    pub found_unknown : (r : Found) → o ≡ (Err (record {})) → FoundAt p d at k r
     unfolding FoundAt
     found_unknown r g P R vars fit x end h = absurd (omega (arith, statement_none (byte p at) o i g, stmt_known p P R vars d at h))
 
-    module _ (c : Statement) (j : o ≡ statement.Is c) where
+    module _ (c : Statement) (j : o ≡ Ok c) where
       module _ (next : ℕ) (q : next ≡ ahead p at 1) where
         pub found_skip : (r : Found) → c ≡ Skip → r ≡ none_found next k → FoundAt p d at k r
         unfolding FoundAt bodies found_of
@@ -189,6 +191,8 @@ module _ (p : List ℕ) (d at k : ℕ) where
           let u = transaction_parts p P R vars d at h (statement_byte_lem (byte p at) o i c j ∙ ap statement_byte g) in
           let y : m ≡ at + 2 + 2 * byte p (at + 1) = l ∙ list_is p at 2 u.inside in
           rw (u.is, ← y) (f P R vars fit u.body end (rw y u.body_read))
+
+pub ruleset founds = (found_none, found_unknown, found_skip, found_assign, found_block, found_if, found_while, found_query, found_update, found_transaction)
 
 pub ruleset searchings = (searching_start, searching_done, searching_found, searching_more)
 

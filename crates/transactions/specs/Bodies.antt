@@ -1,24 +1,27 @@
 -- What the search for a transaction's body gives.
-use Rattle.std.specs.Prelude.{◌≡◌, ℕ, zero, suc, ◌+◌, ◌-◌, ◌<◌, List, [], ◌∷◌, ◌++◌, true, false, length}
+use Rattle.std.specs.Prelude.{◌≡◌, ℕ, zero, suc, ◌+◌, ◌-◌, ◌<◌, List, [], ◌∷◌, ◌++◌, length}
 use Rattle.model.specs.Bytes.{byte}
 use Rattle.model.specs.Syntax.{Stmt}
 use Rattle.model.specs.Program.{got, read_many, read_stmt, block_of}
 use Rattle.model.specs.Flow.{Part, part, bodies}
-use Rattle.transactions.specs.declared.bodies.Found.{Found}
+use Rattle.std.specs.declared.ops.ControlFlow.{ControlFlow}
+use Rattle.std.specs.declared.ops.ControlFlow.TheVariants.{Break, Continue}
+use Rattle.transactions.specs.declared.span.Span.{Span}
+use Rattle.transactions.specs.declared.bodies.Passed.{Passed}
 use Rattle.gathered.specs.Writes.{Fit}
+
+-- a body's place where the search breaks off, else what it has passed
+abbrev pub Found : Type 0
+Found = ControlFlow Span Passed
 
 -- none here: where it ends, and how many transactions are still to pass
 abbrev pub none_found : ℕ → ℕ → Found
-none_found end k = record { found = false; start = 0; size = 0; next = end; left = k }
-
--- found: the search ends, so there is no next position and nothing left to pass
-abbrev pub one_found : ℕ → ℕ → Found
-one_found start size = record { found = true; start = start; size = size; next = 0; left = 0 }
+none_found end k = Continue (record { next = end; left = k })
 
 -- the k-th of the bodies in a statement that ends at a position
 unfoldable pub found_of : List Part → ℕ → ℕ → Found
 found_of [] k end = none_found end k
-found_of (part start size ∷ xs) zero end = one_found start size
+found_of (part start size ∷ xs) zero end = Break (record { start = start; size = size })
 found_of (part start size ∷ xs) (suc k) end = found_of xs k end
 
 -- r is the k-th body in the statement that stands at a position

@@ -1,12 +1,7 @@
--- The loop keeps this: the roles gathered, with those of the mutations left to read, are the roles that the whole list mutates;
--- and what is left to read lies within the bytes.
-use Rattle.std.proofs.Common.{◌+◌, ◌≤◌, length, ◌*◌}
+-- The loop keeps this: the roles gathered, with those of the mutations left to read, are the roles that the whole list mutates.
+use Rattle.std.proofs.Common.{◌+◌, ◌-◌, ◌*◌, length}
 use Rattle.gathered.proofs.WriteLaws.{Mutating}
 use Rattle.gathered.proofs.writes.update_writes.Given as goal
 
-abbrev pub invariant-loop-mutations : goal.invariant-loop-mutations
-invariant-loop-mutations l = (Mutating l.program l.at l.mutations l.next l.mutated) × (l.next + 3 * l.mutations ≤ length l.program)
-
--- proposed from the loop's first test
-abbrev pub decreases-loop-mutations : goal.decreases-loop-mutations
-decreases-loop-mutations l = l.mutations
+abbrev pub invariant-loop-role : goal.invariant-loop-role
+invariant-loop-role l = Mutating l.program l.at (length l.mutations - l.role-index) (l.at + 1 + 3 * l.role-index) l.mutated
