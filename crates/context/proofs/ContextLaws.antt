@@ -1,11 +1,10 @@
--- What the code joins to a context's words is what the rules join to the context: an expression's label, the labels of queries.
+-- What the code joins to a context is what the rules join to the context: an expression's label, the labels of queries.
 use mathlib.Core.Path.{◌≡◌, refl, sym}
 use Prim.Native.Nat.{ℕ, ◌^◌, ◌<◌, ◌≤◌}
 use mathlib.Core.List.{List, [], ◌∷◌, ◌++◌}
 use mathlib.Core.Bool.{Bool, true, false, cond}
 use lib.Bits.{or_comm}
 use lib.Dec.{eqb}
-use lib.ListN.{get_or}
 use borrow.Author.Tests.{eqb-true, eqb-false}
 use Rattle.model.specs.Limits.{role_limit}
 use Rattle.model.specs.Policy.{Side, reading, trust}
@@ -15,11 +14,10 @@ use Rattle.model.specs.Fits.{Each, AtomFits, QueryFits, ExprFits}
 use Rattle.order.specs.Table.{Joins, JoinBelow, query_roles, list_roles}
 use Rattle.order.proofs.Joins.{joins_none, joins_append, joins_role, joins_everyone, joins_query, joins_list, below_none, below_append, below_one, below_query, below_list}
 use Rattle.model.specs.Program.{label_byte}
-use Rattle.program.specs.Layout.{side_of}
 use Rattle.gathered.specs.Words.{label_role, expr_roles}
 use Rattle.gathered.specs.Labels.{LabelsBelow}
-use Rattle.context.specs.declared.around.Join.{Join}
-use Rattle.context.specs.Context.{Labels, meets_of, labels_of, with_labels, with_named, join_of, meet_of, ContextIs}
+use Rattle.context.specs.declared.around.Context.{Context}
+use Rattle.context.specs.Context.{empty_context, with_labels, with_named, join_of, ContextIs}
 
 -- a label's byte is that of its atom
 module _ (b : ℕ) where
@@ -65,18 +63,18 @@ module _ (R : ℕ) (p : List ℕ) (vars : ℕ) (labels : LabelsBelow R p vars) (
   below_expr (variable x) f = below_one R (label p side x) (label_below x f)
   below_expr (binary op a b) f = below_append R (below_expr a f.0) (below_expr b f.1)
 
-pub context_none : (n : ℕ) → ContextIs n (labels_of 0 0 0) (λ side. [])
+pub context_none : (n : ℕ) → ContextIs n empty_context (λ side. [])
 context_none n = record { joined = go; below = λ side. below_none n }
   where
-    go : (side : Side) → Joins side [] (join_of side (labels_of 0 0 0)).roles (join_of side (labels_of 0 0 0)).watchers
+    go : (side : Side) → Joins side [] (join_of side empty_context).roles (join_of side empty_context).watchers
     go reading = joins_none reading
     go trust = joins_none trust
 
-module _ (n : ℕ) (l : Labels) (C : Side → List Atom) (is : ContextIs n l C) where
+module _ (n : ℕ) (l : Context) (C : Side → List Atom) (is : ContextIs n l C) where
   pub context_expr : (p : List ℕ) (vars : ℕ) (e : Expr) → LabelsBelow n p vars → ExprFits vars e → ContextIs n (with_labels l (expr_roles p reading e) (expr_roles p trust e)) (λ side. expr_label p side e ++ C side)
   context_expr p vars e b f = record { joined = go; below = λ side. below_append n (below_expr n p vars b side e f) (is.below side) }
     where
-      k : Labels
+      k : Context
       k = with_labels l (expr_roles p reading e) (expr_roles p trust e)
 
       go : (side : Side) → Joins side (expr_label p side e ++ C side) (join_of side k).roles (join_of side k).watchers
@@ -91,8 +89,8 @@ module _ (n : ℕ) (l : Labels) (C : Side → List Atom) (is : ContextIs n l C) 
 
   named_last : (join : Side → List Atom) (named : ℕ) → ((side : Side) → Joins side (join side) 0 named) → (side : Side)
       → Joins side (C side ++ join side) (join_of side (with_named l named)).roles (join_of side (with_named l named)).watchers
-  named_last join named f reading = rw (or_comm 0 l.readers, or_comm named l.asked) (joins_append reading (is.joined reading) (f reading))
-  named_last join named f trust = rw (or_comm 0 l.trusters, or_comm named l.asked) (joins_append trust (is.joined trust) (f trust))
+  named_last join named f reading = rw (or_comm 0 l.labels.readers, or_comm named l.asked) (joins_append reading (is.joined reading) (f reading))
+  named_last join named f trust = rw (or_comm 0 l.labels.trusters, or_comm named l.asked) (joins_append trust (is.joined trust) (f trust))
 
   module _ (few : n ≤ role_limit) where
     pub context_query : (q : Query) → QueryFits n q → ContextIs n (with_named l (query_roles q)) (λ side. query_label side q ++ C side)
@@ -106,13 +104,3 @@ module _ (n : ℕ) (l : Labels) (C : Side → List Atom) (is : ContextIs n l C) 
       joined = named_last (λ side. list_label side qs) (list_roles qs) (λ side. joins_list side n few qs f);
       below = λ side. below_append n (is.below side) (below_list n side qs f);
     }
-
--- what an update is held to on a side
-module _ (a : List ℕ) (b : Bool) where
-  pub meet_trust : b ≡ true → ◌≡◌ {A = Join} (record { roles = get_or a 8 0; watchers = get_or a 9 0 }) (meet_of (side_of b) (meets_of a))
-  meet_trust e = rw e
-
-  pub meet_reading : b ≡ false → ◌≡◌ {A = Join} (record { roles = get_or a 6 0; watchers = get_or a 7 0 }) (meet_of (side_of b) (meets_of a))
-  meet_reading e = rw e
-
-pub ruleset meets = (meet_trust, meet_reading)

@@ -1,15 +1,15 @@
 -- A law for each return of judge.rt, and its loop: a set lies in an intersection exactly when it lies in each.
+use Rattle.std.proofs.Common.{Result, Ok, Err}
 use mathlib.Core.Path.{◌≡◌, refl, sym, ap, ◌∙◌}
 use Prim.Native.Nat.{ℕ, zero, suc, ◌^◌, ◌<◌, ◌≤◌}
 use native.Mathlib.Omega.{arith}
 use native.Mathlib.Nat.{lt_of_lt_of_le, one-mul}
 use native.Mathlib.Decide.{dec_lt, ℕ_discrete}
-use mathlib.Core.List.{List, [], ◌∷◌}
+use mathlib.Core.List.{List}
 use mathlib.Core.Bool.{Bool, true, false, cond, ◌&&◌}
 use lib.Bits.{bit_and, bit_or, and_mask}
 use borrow.Author.Tests.{eq-eqb}
 use lib.Count.{count_trailing_zeros}
-use lib.ListN.{length, get_or}
 use Rattle.model.specs.Limits.{role_limit}
 use Rattle.model.specs.Sets.{has, within, without}
 use Rattle.model.specs.Policy.{Side, reading, trust, roles}
@@ -22,23 +22,28 @@ use Rattle.model.proofs.Accepted.{accepted_facts}
 use Rattle.model.proofs.Sets.{has_zero, in_none, has_or_l, has_or_r, subset_le, has_and, and_has, within_has, has_within, has_power, has_without, without_has}
 use Rattle.model.proofs.Truth.{same_truth, both, and_both}
 use Rattle.shared.proofs.SetLaws.{shifted}
-use Rattle.program.specs.Layout.{side_of}
-use Rattle.order.specs.Table.{row_in, index_of, watched, Joins, Decides}
+use Rattle.shared.specs.declared.side.Side.{Side as CodeSide}
+use Rattle.shared.specs.Sides.{model_side}
+use Rattle.order.specs.Table.{Table, row_in, index_of, watched, Joins, Decides}
 use Rattle.order.specs.declared.table.Row.{Row}
 use Rattle.order.proofs.DecideLaws.{decided}
 use Rattle.program.specs.declared.codes.Atom.{Atom as CodeAtom}
-use Rattle.program.specs.declared.codes.Atom.TheVariants.{Viewers, Trusters}
-use Rattle.program.specs.declared.codes.AtomOf.{AtomOf}
-use Rattle.program.specs.declared.codes.AtomOf.TheVariants as atom
 use Rattle.program.specs.Codes.{atom_of, model_atom, code_atom}
 use Rattle.program.proofs.CodeLaws.{model_code, byte_atom}
+use Rattle.gathered.specs.declared.labels.Labels.{Labels}
 use Rattle.gathered.specs.Labels.{LabelsBelow}
 use Rattle.context.specs.declared.around.Join.{Join}
 use Rattle.context.specs.declared.judge.Written.{Written}
 use Rattle.context.specs.declared.judge.Written.TheVariants.{Variable, Role}
-use Rattle.context.specs.Context.{Labels, around_words, meets_of, labels_of, context_of, join_of, meet_of, ContextIs}
-use Rattle.context.specs.Judge.{sides_number, target_of, limit_of, Names, TargetAt, OneBelow, all_above, lies_in, narrowed, everything, MetOne, MetAll, Met, MetBoth, Held, held_number, update_number, AssignNumber}
+use Rattle.context.specs.declared.around.Meets.{Meets}
+use Rattle.context.specs.declared.around.Transaction.{Transaction}
+use Rattle.context.specs.declared.around.Around.{Around}
+use Rattle.context.specs.declared.around.Around.TheVariants.{Outside, Inside}
+use Rattle.context.specs.declared.around.Context.{Context}
+use Rattle.context.specs.Context.{join_of, meet_of, ContextIs}
+use Rattle.context.specs.Judge.{sides_number, target_of, limit_of, Names, TargetAt, OneBelow, all_above, lies_in, narrowed, everything, MetOne, MetAll, Met, MetBoth, Held, held_number, AssignNumber}
 use Rattle.context.proofs.ContextLaws.{label_byte_lem, atom_below, label_below}
+use Rattle.program.specs.declared.codes.UnknownCode.{UnknownCode}
 
 and_false : (a b : Bool) → b ≡ false → a && b ≡ false
 and_false true b e = e
@@ -79,16 +84,7 @@ module _ (f : ℕ → Bool) (a : ℕ) where
     each_taken h false e n l = sym (each_stops h e n l)
 
 -- what a write is held to
-module _ (b : Bool) (x : ℕ) where
-  pub watchers_trust : b ≡ true → model_atom (Trusters x) ≡ fixed (of (side_of b) x)
-  watchers_trust e = rw e
-
-  pub watchers_reading : b ≡ false → model_atom (Viewers x) ≡ fixed (of (side_of b) x)
-  watchers_reading e = rw e
-
-pub ruleset watchers = (watchers_trust, watchers_reading)
-
-label_names : (n : ℕ) (o : AtomOf) → AtomFits role_limit (label_atom n) → o ≡ atom_of n → Names o (label_atom n)
+label_names : (n : ℕ) (o : Result CodeAtom UnknownCode) → AtomFits role_limit (label_atom n) → o ≡ atom_of n → Names o (label_atom n)
 label_names n o f e = record {
   named = code_atom (label_atom n);
   is = e ∙ ap atom_of (sym (label_byte_lem n)) ∙ byte_atom (label_atom n) f;
@@ -96,22 +92,22 @@ label_names n o f e = record {
 }
 
 module _ (p : List ℕ) (side : Side) (w : Written) (x : ℕ) where
-  pub target_variable : (y : ℕ) (o : AtomOf) → w ≡ Variable → y ≡ label_byte p side x → o ≡ atom_of y → TargetAt p side w x o
+  pub target_variable : (y : ℕ) (o : Result CodeAtom UnknownCode) → w ≡ Variable → y ≡ label_byte p side x → o ≡ atom_of y → TargetAt p side w x o
   unfolding TargetAt LabelsBelow label
   target_variable y o k e f s ok labels l =
       rw k (label_names (label_byte p side x) o (atom_below (label_byte p side x) role_limit (λ n. lt_of_lt_of_le (labels side x (rw k at l) n) (accepted_facts s ok).roles_fit)) (f ∙ ap atom_of e))
 
-  pub target_role : (a : CodeAtom) → w ≡ Role → model_atom a ≡ fixed (of side x) → TargetAt p side w x (atom.Is a)
+  pub target_role : (a : CodeAtom) → w ≡ Role → model_atom a ≡ fixed (of side x) → TargetAt p side w x (Ok a)
   unfolding TargetAt
   target_role a k e s ok labels l = rw k (record { named = a; is = refl; stands = e })
 
 pub ruleset targets = (target_variable, target_role)
 
 -- the atom that was read is the one that is named
-same_named : (o : AtomOf) (a : CodeAtom) (m : Atom) → Names o m → o ≡ atom.Is a → model_atom a ≡ m
+same_named : (o : Result CodeAtom UnknownCode) (a : CodeAtom) (m : Atom) → Names o m → o ≡ Ok a → model_atom a ≡ m
 same_named o a m u h = let k : a ≡ u.named = cc u.is in rw k u.stands
 
-none_named : {A : Type 0} (o : AtomOf) (m : Atom) → Names o m → o ≡ atom.No → A
+none_named : {A : Type 0} (o : Result CodeAtom UnknownCode) (m : Atom) → Names o m → o ≡ (Err (record {})) → A
 none_named o m u h = let z : ◌≡◌ {A = ℕ} 0 1 = cc u.is in absurd (omega arith)
 
 -- what a write is held to fits
@@ -119,12 +115,12 @@ target_fits : (s p : List ℕ) (side : Side) (w : Written) (x : ℕ) → LabelsB
 target_fits s p side Variable x labels l = label_below (roles s) p (variables p) labels side x l
 target_fits s p side Role x labels l = l
 
-module _ (p t : List ℕ) (join : Join) (side : Side) (w : Written) (x : ℕ) (o : AtomOf) (f : TargetAt p side w x o) where
-  pub one_unknown : o ≡ atom.No → OneBelow p t join side w x false
+module _ (p : List ℕ) (t : Table) (join : Join) (side : Side) (w : Written) (x : ℕ) (o : Result CodeAtom UnknownCode) (f : TargetAt p side w x o) where
+  pub one_unknown : o ≡ (Err (record {})) → OneBelow p t join side w x false
   unfolding TargetAt OneBelow
   one_unknown h s l known C asked e m = none_named o _ (f s asked.is_accepted asked.labels m) h
 
-  pub one_atom : (a : CodeAtom) (r : Bool) → o ≡ atom.Is a → Decides t side join.roles join.watchers (model_atom a) r → OneBelow p t join side w x r
+  pub one_atom : (a : CodeAtom) (r : Bool) → o ≡ Ok a → Decides t side join.roles join.watchers (model_atom a) r → OneBelow p t join side w x r
   unfolding TargetAt OneBelow Decides
   one_atom a r h g s l known C asked e m =
       let i : model_atom a ≡ target_of p side w x = same_named o a _ (f s asked.is_accepted asked.labels m) h in
@@ -141,16 +137,16 @@ none_in a b e =
     let m : b ≤ bit_or a b = subset_le b (bit_or a b) (λ i h. has_or_r a b i h) in
     (omega arith, omega arith)
 
-pub one_empty : (p t : List ℕ) (join : Join) (flag : Bool) (w : Written) (x : ℕ) → bit_or join.roles join.watchers ≡ 0 → OneBelow p t join (side_of flag) w x true
+pub one_empty : (p : List ℕ) (t : Table) (join : Join) (flag : CodeSide) (w : Written) (x : ℕ) → bit_or join.roles join.watchers ≡ 0 → OneBelow p t join (model_side flag) w x true
 unfolding OneBelow Decides
 one_empty p t join flag w x z s l known C asked e m =
     let (rs, ws) = none_in join.roles join.watchers z in
-    let b = target_of p (side_of flag) w x in
+    let b = target_of p (model_side flag) w x in
     let r = row_in t (index_of (code_atom b)) in
-    let j : Joins (side_of flag) (C (side_of flag)) join.roles join.watchers = rw (← e) (asked.context.joined (side_of flag)) in
-    let u = decided t (code_atom b) join.roles join.watchers r (within join.roles r.roles) flag refl refl s known (C (side_of flag)) asked.is_accepted asked.knows j
-    (asked.context.below (side_of flag)) (rw (model_code b) (target_fits s p (side_of flag) w x asked.labels m)) in
-    let v : within join.roles r.roles && within join.watchers (watched (side_of flag) r) ≡ true = and_both (within join.roles r.roles) (within join.watchers (watched (side_of flag) r)) (rw rs (within_none r.roles)) (rw ws (within_none (watched (side_of flag) r))) in
+    let j : Joins (model_side flag) (C (model_side flag)) join.roles join.watchers = rw (← e) (asked.context.joined (model_side flag)) in
+    let u = decided t (code_atom b) join.roles join.watchers r (within join.roles r.roles) flag refl refl s known (C (model_side flag)) asked.is_accepted asked.knows j
+    (asked.context.below (model_side flag)) (rw (model_code b) (target_fits s p (model_side flag) w x asked.labels m)) in
+    let v : within join.roles r.roles && within join.watchers (watched (model_side flag) r) ≡ true = and_both (within join.roles r.roles) (within join.watchers (watched (model_side flag) r)) (rw rs (within_none r.roles)) (rw ws (within_none (watched (model_side flag) r))) in
     sym v ∙ rw (model_code b) at u
 
 pub ruleset ones = (one_empty, one_unknown, one_atom)
@@ -204,7 +200,7 @@ has_everything : (i : ℕ) → i < 64 → has 0xffffffffffffffff i ≡ true
 has_everything i l =
     within_has (2 ^ i) 0xffffffffffffffff i (eq-eqb _ _ (and_mask (2 ^ i) 64 ∙ rw one-mul at (shifted i l))) (has_power i i ∙ eq-eqb i i refl)
 
-lies_in_everything : (n : ℕ) (l : Labels) (C : Side → List Atom) → n ≤ role_limit → ContextIs n l C → (side : Side) → lies_in (join_of side l) everything ≡ true
+lies_in_everything : (n : ℕ) (l : Context) (C : Side → List Atom) → n ≤ role_limit → ContextIs n l C → (side : Side) → lies_in (join_of side l) everything ≡ true
 unfolding lies_in
 lies_in_everything n l C few is side =
     and_both _ _
@@ -212,24 +208,24 @@ lies_in_everything n l C few is side =
     (has_within _ _ (λ i k. has_everything i (lt_of_lt_of_le (is.below side (fixed (of side i)) ((is.joined side).fixed_out i k)) few)))
 
 -- the meet with the row of what one write is held to
-module _ (p t : List ℕ) (flag : Bool) (w : Written) (x : ℕ) (o : AtomOf) (f : TargetAt p (side_of flag) w x o) (m : Join) where
-  pub met_none : o ≡ atom.No → MetOne p t (side_of flag) w x m m
+module _ (p : List ℕ) (t : Table) (flag : CodeSide) (w : Written) (x : ℕ) (o : Result CodeAtom UnknownCode) (f : TargetAt p (model_side flag) w x o) (m : Join) where
+  pub met_none : o ≡ (Err (record {})) → MetOne p t (model_side flag) w x m m
   unfolding TargetAt MetOne
   met_none h s c known C asked l = none_named o _ (f s asked.is_accepted asked.labels l) h
 
-  pub met_row : (a : CodeAtom) (r : Row) (n : Join) → o ≡ atom.Is a → r ≡ row_in t (index_of a) → n ≡ narrowed (side_of flag) m r → MetOne p t (side_of flag) w x m n
+  pub met_row : (a : CodeAtom) (r : Row) (n : Join) → o ≡ Ok a → r ≡ row_in t (index_of a) → n ≡ narrowed (model_side flag) m r → MetOne p t (model_side flag) w x m n
   unfolding TargetAt MetOne Decides
   met_row a r n h d g s c known C asked l =
-      let e : model_atom a ≡ target_of p (side_of flag) w x = same_named o a _ (f s asked.is_accepted asked.labels l) h in
-      let j = join_of (side_of flag) c in
-      let u = decided t a j.roles j.watchers r (within j.roles r.roles) flag d refl s known (C (side_of flag)) asked.is_accepted asked.knows
-      (asked.context.joined (side_of flag)) (asked.context.below (side_of flag)) (rw e (target_fits s p (side_of flag) w x asked.labels l)) in
-      rw g (lies_narrowed j m (side_of flag) r ∙ ap (λ (b : Bool). lies_in j m && b) (rw e at u))
+      let e : model_atom a ≡ target_of p (model_side flag) w x = same_named o a _ (f s asked.is_accepted asked.labels l) h in
+      let j = join_of (model_side flag) c in
+      let u = decided t a j.roles j.watchers r (within j.roles r.roles) flag d refl s known (C (model_side flag)) asked.is_accepted asked.knows
+      (asked.context.joined (model_side flag)) (asked.context.below (model_side flag)) (rw e (target_fits s p (model_side flag) w x asked.labels l)) in
+      rw g (lies_narrowed j m (model_side flag) r ∙ ap (λ (b : Bool). lies_in j m && b) (rw e at u))
 
 pub ruleset mets = (met_none, met_row)
 
 -- a meet for what is left of a set is one for the whole
-module _ (p t : List ℕ) (side : Side) (w : Written) (set : ℕ) (m : Join) where
+module _ (p : List ℕ) (t : Table) (side : Side) (w : Written) (set : ℕ) (m : Join) where
   unfoldable pub Meeting : ℕ → Join → Type 0
   Meeting left met = (r : Join) → MetAll p t side w left met r → MetAll p t side w set m r
 
@@ -251,14 +247,14 @@ module _ (p t : List ℕ) (side : Side) (w : Written) (set : ℕ) (m : Join) whe
         ∙ and_grouped (lies_in j met) (test x) (each_of (without left x) test role_limit)
         ∙ ap (λ (b : Bool). lies_in j met && b) (each_taken test left x h (test x) refl role_limit l))
 
-pub meeting_start : (p t : List ℕ) (side : Side) (w : Written) (set : ℕ) (m : Join) → Meeting p t side w set m set m
+pub meeting_start : (p : List ℕ) (t : Table) (side : Side) (w : Written) (set : ℕ) (m : Join) → Meeting p t side w set m set m
 unfolding Meeting
 meeting_start p t side w set m r f = f
 
 pub ruleset meetings = (meeting_start, meeting_done, meeting_more)
 
 -- variables and roles, then both sides
-module _ (p t : List ℕ) (xs rs : ℕ) where
+module _ (p : List ℕ) (t : Table) (xs rs : ℕ) where
   pub met_both : (side : Side) (e m n : Join) → e ≡ everything → MetAll p t side Variable xs e m → MetAll p t side Role rs m n → Met p t side xs rs n
   unfolding MetAll Met
   met_both side e m n g a b s c known C asked sub sub' =
@@ -273,35 +269,37 @@ module _ (p t : List ℕ) (xs rs : ℕ) where
 
 pub ruleset boths = (met_both, met_sides)
 
--- the words of a transaction whose updates are held
-module _ (p t a : List ℕ) (l : length a ≡ around_words) where
-  pub held_by : (m n : Join) → Met p t reading (get_or a 4 0) (get_or a 5 0) m → Met p t trust (get_or a 4 0) (get_or a 5 0) n
-      → Held p t a (get_or a 0 0 ∷ get_or a 1 0 ∷ get_or a 2 0 ∷ get_or a 3 0 ∷ get_or a 4 0 ∷ get_or a 5 0 ∷ m.roles ∷ m.watchers ∷ n.roles ∷ n.watchers ∷ get_or a 10 0 ∷ get_or a 11 0 ∷ get_or a 12 0 ∷ [])
-  held_by m n f g = record { long = refl; same = refl; right = λ _. met_sides p t (get_or a 4 0) (get_or a 5 0) m n f g }
+-- a transaction whose updates are held
+module _ (p : List ℕ) (t : Table) (a : Around) where
+  pub held_outside : (w : Labels) → a ≡ Outside w → Held p t a a
+  unfolding Held
+  held_outside w e = rw e refl
 
-  pub held_same : get_or a 5 0 ≡ 0 → Held p t a a
-  held_same e = record { long = l; same = refl; right = λ n. absurd (n e) }
+  module _ (x : Transaction) (e : a ≡ Inside x) where
+    pub held_same : x.roles ≡ 0 → Held p t a a
+    unfolding Held
+    held_same z = rw e (x, refl, record { same = refl; right = λ n. absurd (n z) })
 
-pub ruleset helds = (held_by, held_same)
+    pub held_by : (m : Meets) → MetBoth p t x.variables x.roles m → Held p t a (Inside (record x { meets = m }))
+    unfolding Held
+    held_by m f = rw e (record x { meets = m }, refl, record { same = refl; right = λ _. f })
+
+pub ruleset helds = (held_outside, held_same, held_by)
 
 -- nothing against a context: it lies in both meets
-pub held_none : (l : Labels) (m n : Join) → held_number l m n ≡ 0 → (side : Side) → lies_in (join_of side l) (meet_of side (record { reading = m; trust = n })) ≡ true
-held_none l m n e = go (lies_in (join_of reading l) m) (lies_in (join_of trust l) n) refl refl e
+pub held_none : (l : Context) (m : Meets) → held_number l m ≡ 0 → (side : Side) → lies_in (join_of side l) (meet_of side m) ≡ true
+held_none l m e = go (lies_in (join_of reading l) m.reading) (lies_in (join_of trust l) m.trust) refl refl e
   where
-    go : (a b : Bool) → lies_in (join_of reading l) m ≡ a → lies_in (join_of trust l) n ≡ b → sides_number a b ≡ 0 → (side : Side) → lies_in (join_of side l) (meet_of side (record { reading = m; trust = n })) ≡ true
+    go : (a b : Bool) → lies_in (join_of reading l) m.reading ≡ a → lies_in (join_of trust l) m.trust ≡ b → sides_number a b ≡ 0 → (side : Side) → lies_in (join_of side l) (meet_of side m) ≡ true
     go true true f g e reading = f
     go true true f g e trust = g
     go true false f g e side = absurd (omega arith)
     go false b f g e side = absurd (omega arith)
 
-pub assign_sides : (p t : List ℕ) (l : Labels) (x n : ℕ) (a b : Bool) → n ≡ sides_number a b
+pub assign_sides : (p : List ℕ) (t : Table) (l : Context) (x n : ℕ) (a b : Bool) → n ≡ sides_number a b
     → OneBelow p t (join_of reading l) reading Variable x a → OneBelow p t (join_of trust l) trust Variable x b → AssignNumber p t l x n
 unfolding OneBelow AssignNumber
 assign_sides p t l x n a b e f g s known C asked m = cc (e, f s l known C asked refl m, g s l known C asked refl m)
 
-pub held_sides : (l : Labels) (m n : Join) (k : ℕ) (a b : Bool) → k ≡ sides_number a b → a ≡ lies_in (join_of reading l) m → b ≡ lies_in (join_of trust l) n → k ≡ held_number l m n
-held_sides l m n k a b e f g = e ∙ rw (f, g)
-
-pub update_sides : (a : List ℕ) (rs ts ws n : ℕ) (m k : Join) → m ≡ meet_of (side_of false) (meets_of a) → k ≡ meet_of (side_of true) (meets_of a)
-    → n ≡ held_number (labels_of rs ts ws) m k → n ≡ update_number (context_of a rs ts ws)
-update_sides a rs ts ws n m k f g e = e ∙ rw (f, g)
+pub held_sides : (l : Context) (m : Meets) (k : ℕ) (a b : Bool) → k ≡ sides_number a b → a ≡ lies_in (join_of reading l) m.reading → b ≡ lies_in (join_of trust l) m.trust → k ≡ held_number l m
+held_sides l m k a b e f g = e ∙ rw (f, g)

@@ -1,4 +1,5 @@
 -- A law for each return and each turn of lists.rt: the answer for what is left of a list is the answer for the whole.
+use Rattle.std.proofs.Common.{Result, Ok, Err}
 use mathlib.Core.Path.{◌≡◌, refl, sym, ap, subst, ◌∙◌}
 use mathlib.Core.Logic.{⊎_elim}
 use Prim.Native.Nat.{ℕ, zero, suc, ◌+◌, ◌-◌, ◌*◌, ◌/◌, ◌%◌, ◌<◌, ◌≤◌}
@@ -14,7 +15,7 @@ use Rattle.model.specs.Number.{program_range}
 use Rattle.model.specs.Bytes.{byte}
 use Rattle.model.specs.Policy.{reading, trust, Accepted, principals, roles, HasRow, may_hold, may_take}
 use Rattle.model.specs.Mutation.{Kind, addMember, deleteMember, addTaken, deleteTaken, Mutation, allowed}
-use Rattle.model.specs.Syntax.{of, everyone, Atom, role, fixed, atom_byte, Query}
+use Rattle.model.specs.Syntax.{of, everyone, Atom, role, fixed, atom_byte, Query as ModelQuery}
 use Rattle.model.specs.Program.{got, bad, read_byte, read_below, atom_at, read_atom, read_query, mutation_at, read_mutation}
 use Rattle.model.specs.Flow.{listed_in, all_allowed}
 use Rattle.model.proofs.Sets.{or_assoc}
@@ -23,20 +24,20 @@ use Rattle.model.proofs.Rows.{row_inside}
 use Rattle.model.specs.Fits.{AtomFits, QueryFits}
 use Rattle.shared.specs.Words.{single}
 use Rattle.program.specs.declared.codes.Atom.{Atom as CodeAtom}
-use Rattle.program.specs.declared.codes.AtomOf.{AtomOf}
-use Rattle.program.specs.declared.codes.AtomOf.TheVariants as atom
-use Rattle.program.specs.Codes.{atom_of, model_atom}
-use Rattle.program.proofs.CodeLaws.{atom_is, atom_some}
-use Rattle.order.specs.Table.{named_role, query_of, list_roles, DecidesQuery}
+use Rattle.program.specs.declared.codes.Kind.{Kind as CodeKind}
+use Rattle.program.specs.declared.codes.Kind.TheVariants.{AddMember, DeleteMember, AddTaken, DeleteTaken}
+use Rattle.program.specs.Codes.{atom_of, model_atom, kind_of, kind_byte}
+use Rattle.program.proofs.CodeLaws.{atom_is, atom_some, kind_byte_lem, kind_none}
+use Rattle.order.specs.Table.{Table, named_role, query_of, list_roles, DecidesQuery}
 use Rattle.gathered.specs.Positions.{ahead}
 use Rattle.gathered.proofs.PositionLaws.{ahead_is}
 use Rattle.model.proofs.Standing.{then_parts, pick_parts, either_parts, same_value, byte_parts, below_parts, many_none, many_more, query_parts, queries_end, kind_code, mutation_parts, mutations_end}
-use Rattle.context.specs.declared.lists.QueryOf.{QueryOf}
-use Rattle.context.specs.declared.lists.QueryOf.TheVariants as query
+use Rattle.context.specs.declared.lists.Query.{Query}
 use Rattle.context.specs.Lists.{SameAt, ListedAt, QueryNames, QueryAt, KnownAt, byte_roles, QueryRolesAt, ListRolesAt, HoldsRight, TakesRight, OneAllowedAt, AllowedAt}
+use Rattle.program.specs.declared.codes.UnknownCode.{UnknownCode}
 
 -- a query that was read: its second byte stands one ahead, and the next query two ahead
-module _ (p : List ℕ) (R at : ℕ) {k : Query} {end : ℕ} (e : read_query p R at ≡ got k end) where
+module _ (p : List ℕ) (R at : ℕ) {k : ModelQuery} {end : ℕ} (e : read_query p R at ≡ got k end) where
   query_second : atom_byte k.second ≡ byte p (ahead p at 1)
   query_second = let u = query_parts p R at e in u.second_byte ∙ ap (byte p) (sym (ahead_is p at 1 (omega arith)))
 
@@ -102,12 +103,12 @@ module _ (p : List ℕ) (n at other : ℕ) where
           let u = many_more (read_query p R) left here e some in
           rw (u.is, ← (g R u.head q u.mid after u.head_read i), h))
 
-      pub listing_goes_on : r ≡ false → Listing (left - 1) (here + 2)
+      pub listing_goes_on : r ≡ false → (more next : ℕ) → more ≡ left - 1 → next ≡ here + 2 → Listing more next
       unfolding Listing ListedAt SameAt listed_in
-      listing_goes_on h b l = f b (λ R qs q end after e i.
+      listing_goes_on h more next me ne b l = f b (λ R qs q end after e i.
           let u = many_more (read_query p R) left here e some in
           let m = (query_parts p R here u.head_read).ends in
-          rw (u.is, ← (g R u.head q u.mid after u.head_read i), h) (l R u.tail q end after (rw m at u.tail_read) i))
+          rw (u.is, ← (g R u.head q u.mid after u.head_read i), h) (l R u.tail q end after (rw (me, ne, ← m) u.tail_read) i))
 
 pub ruleset listings = (other_past, other_short, list_past, list_short, listing_starts, listing_ends, listing_finds, listing_goes_on)
 
@@ -130,7 +131,7 @@ atom_small : (p : List ℕ) (R at : ℕ) {a : Atom} {end : ℕ} → read_atom p 
 unfolding read_atom
 atom_small p R at e = let u = then_parts (read_byte p at) _ e in atom_at_small R at u.value u.mid u.after
 
-query_small : (p : List ℕ) (R at : ℕ) {q : Query} {end : ℕ} → read_query p R at ≡ got q end → QueryFits role_limit q
+query_small : (p : List ℕ) (R at : ℕ) {q : ModelQuery} {end : ℕ} → read_query p R at ≡ got q end → QueryFits role_limit q
 unfolding read_query
 query_small p R at e =
     let u = then_parts (read_atom p R at) _ e in
@@ -138,36 +139,35 @@ query_small p R at e =
     subst (QueryFits role_limit) (sym (same_value v.after).0) (atom_small p R at u.first, atom_small p R u.mid v.first)
 
 -- what the code takes the two bytes of a query for is that query
-module _ (p : List ℕ) (at : ℕ) (o : AtomOf) (f : o ≡ atom_of (byte p at)) where
-  pub query_no_first : (r : QueryOf) → o ≡ atom.No → QueryAt p at r
+module _ (p : List ℕ) (at : ℕ) (o : Result CodeAtom UnknownCode) (f : o ≡ atom_of (byte p at)) where
+  pub query_no_first : (r : Result Query UnknownCode) (x : UnknownCode) → o ≡ Err x → QueryAt p at r
   unfolding QueryAt
-  query_no_first r h R q end e = absurd (atom_some q.first (query_small p R at e).0 (byte p at) (query_parts p R at e).first_byte o f h)
+  query_no_first r x h R q end e = absurd (atom_some q.first (query_small p R at e).0 (byte p at) (query_parts p R at e).first_byte o f h)
 
-  module _ (n : ℕ) (o' : AtomOf) (i : n ≡ ahead p at 1) (g : o' ≡ atom_of (byte p n)) where
-    second_byte : (R : ℕ) (q : Query) (end : ℕ) → read_query p R at ≡ got q end → atom_byte q.second ≡ byte p n
+  module _ (n : ℕ) (o' : Result CodeAtom UnknownCode) (i : n ≡ ahead p at 1) (g : o' ≡ atom_of (byte p n)) where
+    second_byte : (R : ℕ) (q : ModelQuery) (end : ℕ) → read_query p R at ≡ got q end → atom_byte q.second ≡ byte p n
     second_byte R q end e = query_second p R at e ∙ ap (byte p) (sym i)
 
-    pub query_no_second : (r : QueryOf) → o' ≡ atom.No → QueryAt p at r
+    pub query_no_second : (r : Result Query UnknownCode) (x : UnknownCode) → o' ≡ Err x → QueryAt p at r
     unfolding QueryAt
-    query_no_second r h R q end e = absurd (atom_some q.second (query_small p R at e).1 (byte p n) (second_byte R q end e) o' g h)
+    query_no_second r x h R q end e = absurd (atom_some q.second (query_small p R at e).1 (byte p n) (second_byte R q end e) o' g h)
 
-    pub query_both : (a b : CodeAtom) → o ≡ atom.Is a → o' ≡ atom.Is b → QueryAt p at (query.Is a b)
+    pub query_both : (a b : CodeAtom) → o ≡ Ok a → o' ≡ Ok b → QueryAt p at (Ok (record { first = a; second = b }))
     unfolding QueryAt
     query_both a b h k R q end e =
         let x : model_atom a ≡ q.first = atom_is q.first (query_small p R at e).0 (byte p at) (query_parts p R at e).first_byte o f a h in
         let y : model_atom b ≡ q.second = atom_is q.second (query_small p R at e).1 (byte p n) (second_byte R q end e) o' g b k in
-        record { first = a; second = b; is = refl; stands = λ z. record { first = x z; second = y z } }
+        record { named = record { first = a; second = b }; is = refl; stands = λ z. record { first = x z; second = y z } }
 
 pub ruleset query_reads = (query_no_first, query_no_second, query_both)
 
-pub query_not : {A : Type 0} (o : QueryOf) (q : Query) → QueryNames o q → o ≡ query.No → A
-query_not o q u h = let z : ◌≡◌ {A = ℕ} 0 1 = cc u.is in absurd (omega arith)
+pub query_not : {A : Type 0} (o : Result Query UnknownCode) (q : ModelQuery) (x : UnknownCode) → QueryNames o q → o ≡ Err x → A
+query_not o q x u h = let z : ◌≡◌ {A = ℕ} 0 1 = cc u.is in absurd (omega arith)
 
-pub query_is : (o : QueryOf) (q : Query) (a b : CodeAtom) → QueryNames o q → o ≡ query.Is a b → query_of a b ≡ q
-query_is o q a b u h =
-    let x : a ≡ u.first = cc u.is in
-    let y : b ≡ u.second = cc u.is in
-    rw (x, y) u.stands
+pub query_is : (o : Result Query UnknownCode) (q : ModelQuery) (k : Query) → QueryNames o q → o ≡ Ok k → query_of k.first k.second ≡ q
+query_is o q k u h =
+    let e : k ≡ u.named = cc u.is in
+    rw e u.stands
 
 -- the byte of an atom that was read names the atom's role
 byte_role : (x j : ℕ) → x < 0xc0 → x % 64 ≡ j → byte_roles x ≡ single j
@@ -210,16 +210,16 @@ module _ (p : List ℕ) (at : ℕ) where
 pub ruleset query_names = (named_past, named_short, named_both)
 
 -- whether the table knows one query already
-module _ (p t : List ℕ) (at : ℕ) (o : QueryOf) (f : QueryAt p at o) where
-  pub known_none : o ≡ query.No → KnownAt p t at false
+module _ (p : List ℕ) (t : Table) (at : ℕ) (o : Result Query UnknownCode) (f : QueryAt p at o) where
+  pub known_none : (x : UnknownCode) → o ≡ Err x → KnownAt p t at false
   unfolding QueryAt KnownAt
-  known_none h R q end e = query_not o q (f R q end e) h
+  known_none x h R q end e = query_not o q x (f R q end e) h
 
-  pub known_is : (a b : CodeAtom) (r : Bool) → o ≡ query.Is a b → DecidesQuery t (query_of a b) r → KnownAt p t at r
+  pub known_is : (k : Query) (r : Bool) → o ≡ Ok k → DecidesQuery t (query_of k.first k.second) r → KnownAt p t at r
   unfolding QueryAt KnownAt
-  known_is a b r h g R q end e = same (query_is o q a b (f R q end e) h) g
+  known_is k r h g R q end e = same (query_is o q k (f R q end e) h) g
     where
-      same : {q q' : Query} → q ≡ q' → DecidesQuery t q r → DecidesQuery t q' r
+      same : {q q' : ModelQuery} → q ≡ q' → DecidesQuery t q r → DecidesQuery t q' r
       same e g = rw (← e) g
 
 pub ruleset known_queries = (known_none, known_is)
@@ -238,12 +238,12 @@ module _ (p : List ℕ) (n at : ℕ) where
     unfolding Naming ListRolesAt list_roles
     naming_ends h = rw or_zero_r at (f 0 (λ R qs end e. rw (many_none (read_query p R) left here e h).0))
 
-    pub naming_goes_on : (k r next : ℕ) → k < left → QueryRolesAt p here r → next ≡ ahead p here 2 → Naming (bit_or found r) (left - 1) next
+    pub naming_goes_on : (r more next : ℕ) → 0 < left → more ≡ left - 1 → QueryRolesAt p here r → next ≡ ahead p here 2 → Naming (bit_or found r) more next
     unfolding Naming ListRolesAt QueryRolesAt list_roles
-    naming_goes_on k r next some g e b l = rw or_assoc (f (bit_or r b) (λ R qs end d.
-        let u = many_more (read_query p R) left here d (omega arith) in
+    naming_goes_on r more next some me g e b l = rw or_assoc (f (bit_or r b) (λ R qs end d.
+        let u = many_more (read_query p R) left here d some in
         let m : u.mid ≡ next = query_after p R here u.head_read ∙ sym e in
-        rw (u.is, g R u.head u.mid u.head_read, l R u.tail end (rw m at u.tail_read))))
+        rw (u.is, g R u.head u.mid u.head_read, l R u.tail end (rw (me, ← m) u.tail_read))))
 
 pub ruleset namings = (naming_starts, naming_ends, naming_goes_on)
 
@@ -314,25 +314,46 @@ module _ (s : List ℕ) (i x : ℕ) where
 
 -- one mutation that was read
 module _ (s p : List ℕ) (at : ℕ) where
-  pub deleted : (byte p at ≡ 0 → ⊥) → (byte p at ≡ 2 → ⊥) → OneAllowedAt s p at true
+  deleted : (byte p at ≡ 0 → ⊥) → (byte p at ≡ 2 → ⊥) → OneAllowedAt s p at true
   unfolding OneAllowedAt
   deleted n m o end c =
       let u = mutation_parts p (principals s) (roles s) at c in
       by_deletion s o.role o.operand o.kind (λ e. n (sym u.kind_byte_lem ∙ e)) (λ e. m (sym u.kind_byte_lem ∙ e))
 
-  pub member_added : (r : Bool) → byte p at ≡ 0 → HoldsRight s (byte p (at + 1)) (byte p (at + 2)) r → OneAllowedAt s p at r
+  member_added : (r : Bool) → byte p at ≡ 0 → HoldsRight s (byte p (at + 1)) (byte p (at + 2)) r → OneAllowedAt s p at r
   unfolding OneAllowedAt HoldsRight
   member_added r z l o end c =
       let u = mutation_parts p (principals s) (roles s) at c in
       rw (← u.role_byte, ← u.operand_byte) at l u.role_fits ∙ by_member s o.role o.operand o.kind (u.kind_byte_lem ∙ z)
 
-  pub taken_added : (r : Bool) → byte p at ≡ 2 → TakesRight s (byte p (at + 1)) (byte p (at + 2)) r → OneAllowedAt s p at r
+  taken_added : (r : Bool) → byte p at ≡ 2 → TakesRight s (byte p (at + 1)) (byte p (at + 2)) r → OneAllowedAt s p at r
   unfolding OneAllowedAt TakesRight
   taken_added r z l o end c =
       let u = mutation_parts p (principals s) (roles s) at c in
       rw (← u.role_byte, ← u.operand_byte) at l u.role_fits (taken_fits p (principals s) (roles s) at c z) ∙ by_taken s o.role o.operand o.kind (u.kind_byte_lem ∙ z)
 
-pub ruleset alloweds = (deleted, member_added, taken_added)
+-- the same by the kind that the code read
+module _ (s p : List ℕ) (at : ℕ) (o : Result CodeKind UnknownCode) (e : o ≡ kind_of (byte p at)) where
+  pub no_kind_allowed : (x : UnknownCode) → o ≡ Err x → OneAllowedAt s p at true
+  no_kind_allowed x h = let l = kind_none (byte p at) o e h in deleted s p at (λ z. omega (arith, l)) (λ z. omega (arith, l))
+
+  module _ (k : CodeKind) (h : o ≡ Ok k) where
+    known_byte : {n : ℕ} → kind_byte k ≡ n → byte p at ≡ n
+    known_byte z = kind_byte_lem (byte p at) o e k h ∙ z
+
+    pub deletes_member : k ≡ DeleteMember → OneAllowedAt s p at true
+    deletes_member z = let b = known_byte (ap kind_byte z) in deleted s p at (λ y. omega (arith, b)) (λ y. omega (arith, b))
+
+    pub deletes_taken : k ≡ DeleteTaken → OneAllowedAt s p at true
+    deletes_taken z = let b = known_byte (ap kind_byte z) in deleted s p at (λ y. omega (arith, b)) (λ y. omega (arith, b))
+
+    pub adds_member : (r : Bool) → k ≡ AddMember → HoldsRight s (byte p (at + 1)) (byte p (at + 2)) r → OneAllowedAt s p at r
+    adds_member r z = member_added s p at r (known_byte (ap kind_byte z))
+
+    pub adds_taken : (r : Bool) → k ≡ AddTaken → TakesRight s (byte p (at + 1)) (byte p (at + 2)) r → OneAllowedAt s p at r
+    adds_taken r z = taken_added s p at r (known_byte (ap kind_byte z))
+
+pub ruleset alloweds = (no_kind_allowed, deletes_member, deletes_taken, adds_member, adds_taken)
 
 -- where the list does not lie within the bytes no mutations were read
 pub allowing_past : (s p : List ℕ) (n at : ℕ) → length p ≤ at → AllowedAt s p n at true
@@ -367,11 +388,11 @@ module _ (s p : List ℕ) (n at : ℕ) where
           let u = many_more (read_mutation p (principals s) (roles s)) left here e some in
           rw (u.is, ← (g u.head u.mid u.head_read), h))
 
-      pub allowing_goes_on : r ≡ true → Allowing (left - 1) (here + 3)
+      pub allowing_goes_on : r ≡ true → (more next : ℕ) → more ≡ left - 1 → next ≡ here + 3 → Allowing more next
       unfolding Allowing AllowedAt OneAllowedAt all_allowed
-      allowing_goes_on h b l = f b (λ ms end ok e.
+      allowing_goes_on h more next me ne b l = f b (λ ms end ok e.
           let u = many_more (read_mutation p (principals s) (roles s)) left here e some in
           let m = (mutation_parts p (principals s) (roles s) here u.head_read).ends in
-          rw (u.is, ← (g u.head u.mid u.head_read), h) (l u.tail end ok (rw m at u.tail_read)))
+          rw (u.is, ← (g u.head u.mid u.head_read), h) (l u.tail end ok (rw (me, ne, ← m) u.tail_read)))
 
 pub ruleset allowings = (allowing_past, allowing_short, allowing_starts, allowing_ends, allowing_stops, allowing_goes_on, not-true, not-false)

@@ -27,8 +27,11 @@ use Rattle.model.proofs.FlowParts.{Subset}
 use Rattle.gathered.specs.Labels.{all_below}
 use Rattle.context.specs.declared.judge.Written.{Written}
 use Rattle.context.specs.declared.judge.Written.TheVariants.{Variable, Role}
-use Rattle.context.specs.Context.{Meets, Labels, join_of, meet_of}
+use Rattle.context.specs.declared.around.Meets.{Meets}
+use Rattle.context.specs.declared.around.Context.{Context}
+use Rattle.context.specs.Context.{join_of, meet_of}
 use Rattle.context.specs.Judge.{SetBelow, target_of, Asked, all_above, lies_in, Met, MetBoth}
+use Rattle.order.specs.Table.{Table}
 use Rattle.rules.specs.Check.{writes_of, may_flow, Free}
 
 -- the labels of an expression are among those of all variables, and a listed query's among those of the list
@@ -170,7 +173,7 @@ module _ (s p : List ℕ) (listed : List Query) (xs rs : ℕ) where
     free_same (transaction at start end qs a) h w k l C f g = refl
 
   -- it is free where all that may flow lies in its meets
-  pub free_met : (t : List ℕ) (l : Labels) (m : Meets) (known : List Query) (C : Side → List Atom) → MetBoth p t xs rs m → Asked s p t l known (may_flow p listed C)
+  pub free_met : (t : Table) (l : Context) (m : Meets) (known : List Query) (C : Side → List Atom) → MetBoth p t xs rs m → Asked s p t l known (may_flow p listed C)
       → SetBelow xs (variables p) → SetBelow rs (roles s) → variables p ≤ variable_limit → ((side : Side) → lies_in (join_of side l) (meet_of side m) ≡ true) → Free s p (inside listed xs rs) known C
   unfolding MetBoth Met Free all_above
   free_met t l m known C met asked below below' few h side w x a i n =

@@ -1,4 +1,4 @@
--- A law for the return of enter.rt: its words stand for the transaction at the position. What the body writes is among the
+-- A law for the return of enter.rt: what it writes stands for the transaction at the position. What the body writes is among the
 -- program's variables and the policy's roles, since it names only what there is.
 use mathlib.Core.Path.{◌≡◌, refl, sym, ap, ◌∙◌}
 use mathlib.Core.Logic.{⊎_elim}
@@ -6,27 +6,32 @@ use Prim.Native.Nat.{ℕ, ◌+◌}
 use native.Mathlib.Omega.{arith}
 use mathlib.Core.List.Memᴰ
 use mathlib.Core.List.{List, [], ◌∷◌}
-use mathlib.Core.Bool.{true≢false}
+use mathlib.Core.Bool.{Bool, true≢false}
 use lib.Bits.{bit_or, or_zero_r}
-use lib.ListN.{get_or}
+use lib.Dec.{eqb}
 use borrow.Author.Tests.{eqb-true}
 use Rattle.model.specs.Bytes.{byte}
-use Rattle.model.specs.Policy.{reading, trust}
 use Rattle.model.specs.Mutation.{Mutation}
 use Rattle.model.specs.Syntax.{Stmt, skip, assign, empty, block, if, while, query, update, transaction}
 use Rattle.model.specs.Program.{got, read_many, read_query}
 use Rattle.model.specs.Fits.{Each, MutationFits, Fits}
 use Rattle.model.specs.Flow.{assigned, roles_of, mutated}
 use Rattle.model.proofs.Sets.{has_zero, or_has, with_has}
+use Rattle.order.specs.Table.{Table}
 use Rattle.gathered.specs.Positions.{ahead, after_list}
+use Rattle.gathered.specs.declared.labels.Labels.{Labels}
+use Rattle.gathered.specs.declared.writes.Writes.{Writes}
 use Rattle.gathered.specs.Writes.{WritesAt}
 use Rattle.gathered.proofs.PositionLaws.{ahead_is, list_is}
-use Rattle.context.specs.declared.around.Join.{Join}
+use Rattle.context.specs.declared.around.Meets.{Meets}
+use Rattle.context.specs.declared.around.Transaction.{Transaction}
+use Rattle.context.specs.declared.around.Around.TheVariants as around
+use Rattle.context.specs.declared.around.Context.{Context}
 use Rattle.context.specs.Lists.{ListRolesAt}
-use Rattle.context.specs.Context.{around_of, labels_of}
-use Rattle.context.specs.Judge.{SetBelow, Met, held_number}
+use Rattle.context.specs.Context.{with_labels, with_named}
+use Rattle.context.specs.Judge.{SetBelow, MetBoth, held_number}
 use Rattle.rules.specs.Check.{body_start, EnteredAt, Enters}
-use Rattle.context.proofs.JudgeLaws.{met_sides, held_none}
+use Rattle.context.proofs.JudgeLaws.{held_none}
 
 -- what a statement that fits writes
 zero_below : (n : ℕ) → SetBelow 0 n
@@ -67,34 +72,36 @@ module _ (P R vars : ℕ) where
   mutated_below (transaction at start end qs a) f = mutated_below a f.1
 
 -- entering a transaction
-module _ (p : List ℕ) (d at q m n count list end₀ named : ℕ) (w : List ℕ) (e₁ : q ≡ ahead p at 1) (e₂ : n ≡ byte p q) (e₀ : count ≡ n) (e₃ : list ≡ ahead p at 2)
-    (e₄ : m ≡ after_list p at 2) (f : WritesAt p d m (0 ∷ 0 ∷ []) w end₀) (g : ListRolesAt p n list named) where
-  entered_is : (rest : List ℕ) → EnteredAt p d at (1 ∷ list ∷ count ∷ named ∷ get_or w 0 0 ∷ get_or w 1 0 ∷ rest)
+module _ (p : List ℕ) (d at q m n list end₀ named : ℕ) (w : Writes) (e₁ : q ≡ ahead p at 1) (e₂ : n ≡ byte p q) (e₃ : list ≡ ahead p at 2) (e₄ : m ≡ after_list p at 2)
+    (f : WritesAt p d m (record { variables = 0; roles = 0 }) w end₀) (g : ListRolesAt p n list named) where
+  abbrev entered : Meets → Bool → Transaction
+  entered u free = record { list = list; count = n; named = named; variables = w.variables; roles = w.roles; meets = u; free = free }
+
+  entered_is : (u : Meets) (free : Bool) → EnteredAt p d at (entered u free)
   unfolding EnteredAt WritesAt ListRolesAt
-  entered_is rest P R vars listed body end few few' h i j k fit =
+  entered_is u free P R vars listed body end few few' h i j k fit =
       let ne : n ≡ byte p (at + 1) = e₂ ∙ ap (byte p) (e₁ ∙ ahead_is p at 1 (omega arith)) in
       let le : list ≡ at + 2 = e₃ ∙ ahead_is p at 2 (omega arith) in
       let me : m ≡ body_start p at = e₄ ∙ list_is p at 2 h in
       let x = (f P R vars (few, few') body end (rw me k)).1 in
       let y : read_many (read_query p R) n list ≡ got listed (body_start p at) = rw (ne, le) i in
       record {
-        flag = refl;
         end = body_start p at;
-        listed_read = rw e₀ y;
+        listed_read = y;
         listed_below = j;
         named_are = g R listed (body_start p at) y;
-        variables_are = ap (λ (l : List ℕ). get_or l 0 0) x ∙ or_zero_r (assigned body);
+        variables_are = ap (λ (l : Writes). l.variables) x ∙ or_zero_r (assigned body);
         variables_below = assigned_below P R vars body fit;
-        roles_are = ap (λ (l : List ℕ). get_or l 1 0) x ∙ or_zero_r (mutated body);
+        roles_are = ap (λ (l : Writes). l.roles) x ∙ or_zero_r (mutated body);
         roles_below = mutated_below P R vars body fit;
       }
 
-  pub enters : (t a : List ℕ) (rs ts ws : ℕ) (u v : Join) (z : ℕ) → Met p t reading (get_or w 0 0) (get_or w 1 0) u → Met p t trust (get_or w 0 0) (get_or w 1 0) v
-      → z ≡ held_number (labels_of (bit_or (get_or a 10 0) rs) (bit_or (get_or a 11 0) ts) (bit_or named ws)) u v
-      → Enters p t (around_of a) (labels_of rs ts ws) d at (1 ∷ list ∷ count ∷ named ∷ get_or w 0 0 ∷ get_or w 1 0 ∷ u.roles ∷ u.watchers ∷ v.roles ∷ v.watchers ∷ 0 ∷ 0 ∷ z ∷ [])
-  enters t a rs ts ws u v z h k e = record {
-    long = refl;
-    entered = entered_is _;
-    held = met_sides p t (get_or w 0 0) (get_or w 1 0) u v h k;
-    free = λ i. held_none _ u v (sym e ∙ eqb-true z 0 i);
+  pub enters : (t : Table) (a : Labels) (l : Context) (u : Meets) (z : ℕ) → MetBoth p t w.variables w.roles u
+      → z ≡ held_number (with_named (with_labels l a.readers a.trusters) named) u → Enters p t a l d at (around.Inside (entered u (eqb z 0)))
+  enters t a l u z h e = record {
+    transaction = entered u (eqb z 0);
+    is = refl;
+    entered = entered_is u (eqb z 0);
+    held = h;
+    free = λ i. held_none _ u (sym e ∙ eqb-true z 0 i);
   }

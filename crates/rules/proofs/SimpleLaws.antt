@@ -4,12 +4,10 @@ use mathlib.Core.Path.{◌≡◌, refl, sym, ap, subst, ◌∙◌}
 use Prim.Native.Nat.{ℕ, ◌+◌, ◌<◌}
 use native.Mathlib.Omega.{arith}
 use native.Mathlib.Decide.{ℕ_discrete}
-use mathlib.Core.List.{List, [], ◌∷◌, ◌++◌}
+use mathlib.Core.List.{List, ◌∷◌, ◌++◌}
 use mathlib.Core.Bool.{Bool, true, false, cond}
 use lib.Dec.{eqb}
-use lib.ListN.{get_or}
 use borrow.Author.Tests.{ne_eqb}
-use Rattle.model.specs.Limits.{expression_depth}
 use Rattle.model.specs.Number.{fine, require}
 use Rattle.model.specs.Bytes.{byte}
 use Rattle.model.specs.Policy.{Side, reading, trust, principals, roles, Accepted}
@@ -22,18 +20,19 @@ use Rattle.model.proofs.Standing.{many_more, mutations_end, assign_parts, update
 use Rattle.program.specs.Answer.{reached, stopped, place_limit, refusal, told}
 use Rattle.program.proofs.AnswerLaws.{position_told, refusal_kept}
 use Rattle.gathered.specs.Positions.{ahead, after_list}
-use Rattle.gathered.specs.Labels.{LabelsAt}
+use Rattle.order.specs.Table.{Table}
+use Rattle.gathered.specs.declared.labels.Labels.{Labels}
 use Rattle.gathered.proofs.PositionLaws.{ahead_is, list_is}
 use Rattle.context.specs.Lists.{AllowedAt}
-use Rattle.context.specs.Context.{Context, around_of, labels_of, with_named, join_of, meet_of, ContextIs}
-use Rattle.context.specs.Judge.{sides_number, all_above, both_above, lies_in, Met, MetBoth, update_number, AssignNumber}
-use Rattle.rules.specs.Check.{checked_to, numbered, numbered_word, MeetsAre, StmtAt, Writes, CheckedAt, AssignAt, UpdateAt}
+use Rattle.context.specs.declared.around.Transaction.{Transaction}
+use Rattle.context.specs.declared.around.Around.{Around}
+use Rattle.context.specs.declared.around.Around.TheVariants as around
+use Rattle.context.specs.declared.around.Context.{Context}
+use Rattle.context.specs.Context.{Carried, carried, with_named, join_of, meet_of, ContextIs}
+use Rattle.context.specs.Judge.{sides_number, all_above, both_above, lies_in, Met, MetBoth, held_number, AssignNumber}
+use Rattle.rules.specs.Check.{checked_to, numbered, numbered_word, MeetsAre, StmtAt, Writes, CheckedAt, JoinedAt, AssignAt, UpdateAt}
 use Rattle.context.proofs.ContextLaws.{context_list}
-use Rattle.rules.proofs.StandsLaws.{stopped_told, stands_asked, roles_few, low_start, low_end, labels_are, under_expr, within_one, within_none, added_context}
-
--- a transaction around
-pub inside_is : (a : List ℕ) (i : Bool) → i ≡ (around_of a).inside → i ≡ true → (around_of a).inside ≡ true
-inside_is a i e f = sym e ∙ f
+use Rattle.rules.proofs.StandsLaws.{stopped_told, stands_asked, roles_few, low_start, low_end, joined_is, within_one, within_none}
 
 -- answers
 pub numbered_fine : (k place end : ℕ) → k ≡ 0 → end ≡ numbered_word k place end
@@ -69,31 +68,32 @@ unfolding Writes mutated roles_of
 writes_update listed xs rs at m ms w z = in_none m.role (rw z at (w.1 m.role (has_with_same (roles_of ms) m.role)))
 
 -- an assignment
-pub assign_checked : (p t : List ℕ) (rs ts ws : ℕ) (at q x m : ℕ) (l : List ℕ) (next n : ℕ) (r : ℕ)
-    → q ≡ ahead p at 1 → x ≡ byte p q → m ≡ ahead p at 2 → LabelsAt p expression_depth m (rs ∷ ts ∷ []) l next
-    → AssignNumber p t (labels_of (get_or l 0 0) (get_or l 1 0) ws) x n → r ≡ numbered_word n at next → AssignAt p t (labels_of rs ts ws) at r
+pub assign_checked : (p : List ℕ) (t : Table) (b : Context) (at q x m : ℕ) (a : Context) (next n : ℕ) (r : ℕ)
+    → q ≡ ahead p at 1 → x ≡ byte p q → m ≡ ahead p at 2 → JoinedAt p m b a next → AssignNumber p t a x n → r ≡ numbered_word n at next → AssignAt p t b at r
 unfolding AssignAt CheckedAt AssignNumber flow may_assign
-assign_checked p t rs ts ws at q x m l next n r e₁ e₂ e₃ f h j s c d ce code around known C y end st i fit =
+assign_checked p t b at q x m a next n r e₁ e₂ e₃ f h j s c d ce code around known C y end st i fit =
     let u = assign_parts p (principals s) (roles s) (variables p) d at i code in
     let xe : x ≡ byte p (at + 1) = e₂ ∙ ap (byte p) (e₁ ∙ ahead_is p at 1 (omega (arith, u.inside))) in
     let me : m ≡ at + 2 = e₃ ∙ ahead_is p at 2 u.inside in
-    let le = labels_are st m (rs ∷ ts ∷ []) l next u.value end f (rw me u.value_read) in
     let w = rw u.is at fit.0 in
-    let b = added_context p u.value (rs ∷ ts ∷ []) l le.1 (roles s) ws (λ side. expr_label p side u.value ++ C side) (rw ce at (under_expr st u.value w.1)) in
-    let v = h s known (λ side. expr_label p side u.value ++ C side) (stands_asked st _ b) (rw xe u.fits) in
-    let told-so : told r ≡ numbered n at end = numbered_told n at end r (rw (← le.0) j) (low_start st d at i) (low_end st d at i) in
+    let (le, k) = joined_is st m a next u.value end (subst (λ (l : Context). JoinedAt p m l a next) (sym ce) f) (rw me u.value_read) w.1 in
+    let v = h s known (λ side. expr_label p side u.value ++ C side) (stands_asked st a k) (rw xe u.fits) in
+    let told-so : told r ≡ numbered n at end = numbered_told n at end r (rw (← le) j) (low_start st d at i) (low_end st d at i) in
     rw (u.is, told-so, v, ← xe)
     (sides_checked (may_assign s p known C x u.value reading) (may_assign s p known C x u.value trust) at end)
 
 -- an update
-module _ (s p : List ℕ) (c : Context) (at : ℕ) where
-  pub update_outside : (i : Bool) (r : ℕ) → i ≡ c.around.inside → i ≡ false → r ≡ refusal 15 at → UpdateAt s p c at r
+module _ (s p : List ℕ) (at : ℕ) where
+  pub update_outside : (c : Carried) (x : Labels) (r : ℕ) → c.around ≡ around.Outside x → r ≡ refusal 15 at → UpdateAt s p c at r
   unfolding UpdateAt CheckedAt flow checked_to
-  update_outside i r f e g t d code around known C x end st h fit =
+  update_outside c x r e g t d code around known C y end st h fit =
       let u = update_parts p (principals s) (roles s) (variables p) d at h code in
-      rw (u.is, (within_none p (roles s) (variables p) c.around around st.surrounded (sym f ∙ e)).0) (stopped_told r 15 at g (omega arith) (low_start st d at h))
+      rw (u.is, (within_none p (roles s) (variables p) c.around around x st.surrounded e).0) (stopped_told r 15 at g (omega arith) (low_start st d at h))
 
-  module _ (q n m : ℕ) (b : Bool) (i : q ≡ ahead p at 1) (j : n ≡ byte p q) (k : m ≡ ahead p at 2) (f : AllowedAt s p n m b) where
+  pub update_inside : (a : Around) (l : Context) (x : Transaction) (r : ℕ) → a ≡ around.Inside x → UpdateAt s p (carried (around.Inside x) l) at r → UpdateAt s p (carried a l) at r
+  update_inside a l x r e f = rw e f
+
+  module _ (q n m : ℕ) (b : Bool) (i : q ≡ ahead p at 1) (j : n ≡ byte p q) (k : m ≡ ahead p at 2) (f : AllowedAt s p n m b) (a : Transaction) (l : Context) where
     allowed_is : (d : ℕ) (x : Stmt) (end : ℕ) → Accepted s → (h : StmtAt s p d at x end) → (code : byte p at ≡ 6) → b ≡ all_allowed s (update_parts p (principals s) (roles s) (variables p) d at h code).mutations
     unfolding AllowedAt
     allowed_is d x end ok h code =
@@ -102,32 +102,31 @@ module _ (s p : List ℕ) (c : Context) (at : ℕ) where
         let me : m ≡ at + 2 = k ∙ ahead_is p at 2 u.inside in
         f u.mutations end ok (rw (ne, me) u.mutations_read)
 
-    pub update_grant : (r : ℕ) → c.around.inside ≡ true → b ≡ false → r ≡ refusal 16 at → UpdateAt s p c at r
+    pub update_grant : (r : ℕ) → b ≡ false → r ≡ refusal 16 at → UpdateAt s p (carried (around.Inside a) l) at r
     unfolding UpdateAt CheckedAt flow checked_to
-    update_grant r e g re t d code around known C x end st h fit =
+    update_grant r g re t d code around known C x end st h fit =
         let u = update_parts p (principals s) (roles s) (variables p) d at h code in
-        let w = within_one p (roles s) (variables p) c.around around st.surrounded e in
+        let w = within_one p (roles s) (variables p) _ around a st.surrounded refl in
         let v = sym (allowed_is d x end st.is_accepted h code) ∙ g in
         rw (u.is, w.is, v) (stopped_told r 16 at re (omega arith) (low_start st d at h))
 
-  pub update_number_lem : (r : ℕ) (y o : ℕ) (n m : ℕ) (b : Bool) (q : ℕ)
-      → c.around.inside ≡ true → r ≡ numbered_word y at o → o ≡ after_list p at 3 → (k : ℕ) → k ≡ c.around.named
-      → y ≡ update_number (record { around = c.around; meets = c.meets; labels = with_named c.labels k })
-      → AllowedAt s p n m b → b ≡ true → n ≡ byte p q → q ≡ ahead p at 1 → m ≡ ahead p at 2 → UpdateAt s p c at r
-  unfolding UpdateAt CheckedAt MetBoth Met flow may_update all_above
-  update_number_lem r y o n m b q e re oe k ke h f g e₂ e₁ e₃ t d code around known C x end st i fit =
-      let u = update_parts p (principals s) (roles s) (variables p) d at i code in
-      let w = within_one p (roles s) (variables p) c.around around st.surrounded e in
-      let v = sym (allowed_is q n m b e₁ e₂ e₃ f d x end st.is_accepted i code) ∙ g in
-      let ends = mutations_end p (principals s) (roles s) (byte p (at + 1)) (at + 2) u.mutations_read u.inside in
-      let oo : o ≡ end = oe ∙ list_is p at 3 (omega arith) ∙ sym ends.0 in
-      let l = with_named c.labels k in
-      let cl : ContextIs (roles s) l (λ side. C side ++ list_label side w.listed) = subst (λ (n : ℕ). ContextIs (roles s) (with_named c.labels n) (λ side. C side ++ list_label side w.listed)) (sym (ke ∙ w.parts.named_are)) (context_list (roles s) c.labels C st.context (roles_few st) w.listed w.parts.listed_below) in
-      let K : Side → List Atom = λ side. C side ++ list_label side w.listed in
-      let v₁ = many_more _ (byte p (at + 1)) (at + 2) u.mutations_read u.some in
-      let writes : Writes (inside w.listed w.xs w.rs) (update at (v₁.head ∷ v₁.tail)) = rw (w.is, u.is, v₁.is) at fit.1 in
-      let held : MetBoth p t w.xs w.rs c.meets = subst (MeetsAre p t c.meets) w.is st.met (writes_update w.listed w.xs w.rs at v₁.head v₁.tail writes) in
-      let side : (side : Side) → lies_in (join_of side l) (meet_of side c.meets) ≡ both_above s p known K side w.xs w.rs = λ side. held side s l known K (stands_asked st l cl) w.parts.variables_below w.parts.roles_below in
-      let n = h ∙ sides_same (side reading) (side trust) in
-      let told-so : told r ≡ numbered y at end = numbered_told y at end r (rw (← oo) re) (low_start st d at i) (low_end st d at i) in
-      rw (u.is, w.is, v, told-so, n) (sides_checked (may_update s p known C w.listed w.xs w.rs reading) (may_update s p known C w.listed w.xs w.rs trust) at end)
+    pub update_granted : (r : ℕ) (y o : ℕ) → b ≡ true → r ≡ numbered_word y at o → o ≡ after_list p at 3 → y ≡ held_number (with_named l a.named) a.meets
+        → UpdateAt s p (carried (around.Inside a) l) at r
+    unfolding UpdateAt CheckedAt MetBoth Met flow may_update all_above
+    update_granted r y o g re oe h t d code W known C x end st z fit =
+        let u = update_parts p (principals s) (roles s) (variables p) d at z code in
+        let w = within_one p (roles s) (variables p) _ W a st.surrounded refl in
+        let v = sym (allowed_is d x end st.is_accepted z code) ∙ g in
+        let ends = mutations_end p (principals s) (roles s) (byte p (at + 1)) (at + 2) u.mutations_read u.inside in
+        let oo : o ≡ end = oe ∙ list_is p at 3 (omega arith) ∙ sym ends.0 in
+        let K : Side → List Atom = λ side. C side ++ list_label side w.listed in
+        let cl : ContextIs (roles s) (with_named l a.named) K = subst (λ (n : ℕ). ContextIs (roles s) (with_named l n) K) (sym w.parts.named_are) (context_list (roles s) l C st.context (roles_few st) w.listed w.parts.listed_below) in
+        let v₁ = many_more _ (byte p (at + 1)) (at + 2) u.mutations_read u.some in
+        let writes : Writes (inside w.listed w.xs w.rs) (update at (v₁.head ∷ v₁.tail)) = rw (w.is, u.is, v₁.is) at fit.1 in
+        let held : MetBoth p t w.xs w.rs a.meets = subst (MeetsAre p t (around.Inside a)) w.is st.met (writes_update w.listed w.xs w.rs at v₁.head v₁.tail writes) in
+        let side : (side : Side) → lies_in (join_of side (with_named l a.named)) (meet_of side a.meets) ≡ both_above s p known K side w.xs w.rs = λ side. held side s (with_named l a.named) known K (stands_asked st _ cl) w.parts.variables_below w.parts.roles_below in
+        let n = h ∙ sides_same (side reading) (side trust) in
+        let told-so : told r ≡ numbered y at end = numbered_told y at end r (rw (← oo) re) (low_start st d at z) (low_end st d at z) in
+        rw (u.is, w.is, v, told-so, n) (sides_checked (may_update s p known C w.listed w.xs w.rs reading) (may_update s p known C w.listed w.xs w.rs trust) at end)
+
+pub ruleset updates = (update_outside, update_inside, update_grant, update_granted)

@@ -1,19 +1,22 @@
 // The flow rules of an assignment and of an update, which have no statement in them, over the bytes of a program that was read:
 // 15 to 18 where one stands, lowest number first. Contracts speak of the tree that stands at a position; where none stands, any
 // answer is right.
-ghost use Rattle.std.specs.Prelude.{◌≡◌, true, length};
+ghost use Rattle.std.specs.Prelude.{◌≡◌};
 ghost use Rattle.model.specs.Policy.{Accepted};
-ghost use Rattle.order.specs.Table.{table_words};
-ghost use Rattle.context.specs.Context.{around_words, around_of, labels_of, context_of};
-ghost use Rattle.rules.specs.Check.{numbered_word, AssignAt, UpdateAt};
+ghost use Rattle.context.specs.declared.around.Around.TheVariants.{Inside};
+ghost use Rattle.context.specs.Context.{carried};
+ghost use Rattle.rules.specs.Check.{numbered_word, JoinedAt, AssignAt, UpdateAt};
 
-use context::{around, judge, lists};
+use context::around::{Around, Context, Transaction};
+use context::files::Files;
+use context::{judge, lists};
 use gathered::{labels, positions};
-use order::table;
+use order::table::Table;
 use program::answer;
 use shared::{bytes, limit, number};
 
 // The word of a number at a place, on a statement that ends at a position.
+#[tactic(auto, using(crate::proofs::SimpleLaws::answers))]
 fn numbered(number: u32, at: usize, next: usize) -> u64
     ensures { result ≡ numbered_word number at next }
 {
@@ -23,72 +26,59 @@ fn numbered(number: u32, at: usize, next: usize) -> u64
     answer::refused(number, at)
 }
 
+// Joins the labels of the expression at `at` to the context, and returns where it ends.
+pub fn join_labels(program: &&[u8], at: usize, context: &mut Context) -> usize
+    ensures { JoinedAt program.now.now at context.old context.new result }
+{
+    labels::expr_labels(program, limit::EXPRESSION_DEPTH, at, &mut context.labels)
+}
+
 // Context and expression label are at most the variable's label.
-pub fn check_assign(
-    program: &&[u8],
-    table: &[u64; table::TABLE_WORDS],
-    readers: u64,
-    trusters: u64,
-    asked: u64,
-    at: usize,
-) -> u64
-    requires { length table.now ≡ table_words }
-    ensures { AssignAt program.now.now table.now (labels_of readers trusters asked) at result }
+#[tactic(auto, using(crate::proofs::SimpleLaws::assign_checked))]
+pub fn check_assign(program: &&[u8], table: &Table, context: &Context, at: usize) -> u64
+    ensures { AssignAt program.now.now table.now context.now at result }
 {
     let target = bytes::byte_at(*program, positions::ahead(*program, at, 1));
-    let mut labels = [readers, trusters];
-    let next = labels::expr_labels(
-        program,
-        limit::EXPRESSION_DEPTH,
-        positions::ahead(*program, at, 2),
-        &mut labels,
-    );
-    let number = judge::assign_number(*program, table, labels[0], labels[1], asked, target);
+    let mut joined = *context;
+    let next = join_labels(program, positions::ahead(*program, at, 2), &mut joined);
+    let number = judge::assign_number(*program, table, &joined, target);
     numbered(number, at, next)
 }
 
 // An update in a transaction adds only what the policy file allows. The context joined with the labels of all listed queries
 // is at most all that the transaction writes.
-fn check_granted(
-    policy: &&[u8],
-    program: &&[u8],
-    around: &[u64; around::WORDS],
-    readers: u64,
-    trusters: u64,
-    asked: u64,
-    at: usize,
-) -> u64
-    requires { (Accepted policy.now.now) × (length around.now ≡ around_words) × ((around_of around.now).inside ≡ true) }
-    ensures { UpdateAt policy.now.now program.now.now (context_of around.now readers trusters asked) at result }
+#[tactic(auto, using(crate::proofs::SimpleLaws::updates))]
+fn check_granted(files: &Files, transaction: &Transaction, context: &Context, at: usize) -> u64
+    requires { Accepted files.now.policy.now }
+    ensures { UpdateAt files.now.policy.now files.now.program.now (carried (Inside transaction.now) context.now) at result }
 {
-    let count = bytes::byte_at(*program, positions::ahead(*program, at, 1));
-    if lists::all_allowed(*policy, *program, count, positions::ahead(*program, at, 2)) {
-        let named = around::named_of(around) | asked;
-        let number = judge::update_number(around, readers, trusters, named);
+    let count = bytes::byte_at(files.program, positions::ahead(files.program, at, 1));
+    if lists::all_allowed(
+        files.policy,
+        files.program,
+        count,
+        positions::ahead(files.program, at, 2),
+    ) {
+        let asked = transaction.named | context.asked;
+        let joined = Context { asked, ..*context };
+        let number = judge::held_number(&joined, &transaction.meets);
         return numbered(
             number,
             at,
-            positions::after_list(*program, at, positions::MUTATION_BYTES),
+            positions::after_list(files.program, at, positions::MUTATION_BYTES),
         );
     }
     answer::refused(number::FLOW_GRANT, at)
 }
 
 // Only in a transaction.
-pub fn check_update(
-    policy: &&[u8],
-    program: &&[u8],
-    around: &[u64; around::WORDS],
-    readers: u64,
-    trusters: u64,
-    asked: u64,
-    at: usize,
-) -> u64
-    requires { (Accepted policy.now.now) × (length around.now ≡ around_words) }
-    ensures { UpdateAt policy.now.now program.now.now (context_of around.now readers trusters asked) at result }
+#[tactic(auto, using(crate::proofs::SimpleLaws::updates))]
+pub fn check_update(files: &Files, around: &Around, context: &Context, at: usize) -> u64
+    requires { Accepted files.now.policy.now }
+    ensures { UpdateAt files.now.policy.now files.now.program.now (carried around.now context.now) at result }
 {
-    if around::is_inside(around) {
-        return check_granted(policy, program, around, readers, trusters, asked, at);
+    match around {
+        Around::Inside(transaction) => check_granted(files, transaction, context, at),
+        Around::Outside(_) => answer::refused(number::FLOW_TRANSACTION, at),
     }
-    answer::refused(number::FLOW_TRANSACTION, at)
 }

@@ -2,10 +2,10 @@
 use mathlib.Core.Path.{◌≡◌, refl, sym, ap, ◌∙◌}
 use Prim.Native.Nat.{ℕ, ◌+◌, ◌*◌, ◌/◌, ◌%◌, ◌<◌, ◌≤◌}
 use native.Mathlib.Omega.{arith}
-use mathlib.Core.List.{List, [], ◌∷◌}
+use mathlib.Core.List.{List, []}
 use native.Mathlib.Nat.{lt_of_lt_of_le}
 use lib.Bits.{or_zero_r}
-use lib.ListN.{length, get_or}
+use lib.ListN.{length}
 use native.Mathlib.Decide.{dec_lt}
 use borrow.Author.Tests.{ne_eqb, lt-leb}
 use Rattle.model.specs.Limits.{program_bytes, statement_depth}
@@ -16,18 +16,17 @@ use Rattle.model.specs.Program.{Read as Reading, got, bad, variables, body_at, r
 use Rattle.model.specs.Flow.{outside, flow, body_verdict, program_verdict}
 use Rattle.model.proofs.Accepted.{accepted_facts}
 use Rattle.model.proofs.Reading.{ProgramParts, program_parts}
-use Rattle.order.specs.Table.{Knows}
-use Rattle.program.specs.declared.answer.Answer.{Answer}
-use Rattle.program.specs.declared.answer.Answer.TheVariants as answer
+use Rattle.order.specs.Table.{Table, Knows}
+use Rattle.std.specs.Prelude.{⊤, Result, Ok, Err, IsErrAnd}
+use Rattle.program.specs.declared.answer.RefusedAt.{RefusedAt}
 use Rattle.program.specs.Answer.{reached, stopped, reached_by, place_limit, told, end_of}
 use Rattle.program.proofs.AnswerLaws.{position_told, refusal_told}
 use Rattle.gathered.specs.Words.{expr_roles}
+use Rattle.gathered.specs.declared.labels.Labels.{Labels}
 use Rattle.gathered.specs.Labels.{LabelsBelow, labels_added, all_below, AllAdded}
-use Rattle.verdict.specs.declared.verdict.Verdict.{Verdict}
-use Rattle.verdict.specs.declared.verdict.Verdict.TheVariants.{Fine, Refused}
-use Rattle.context.specs.Context.{around_words, around_of, context_of}
+use Rattle.context.specs.declared.around.Around.TheVariants as around
+use Rattle.context.specs.Context.{carried, empty_context}
 use Rattle.rules.specs.Check.{Outside, Free, Writes, checked_to, CheckedAt}
-use Rattle.flow.specs.Check.{Ready}
 use Rattle.verdict.specs.Verdict.{verdict_of, BodyVerdict}
 use Rattle.context.proofs.ContextLaws.{context_none}
 use Rattle.flow.proofs.CheckLaws.{reached_not}
@@ -47,22 +46,16 @@ program_short p P R {x} {end} h = go (dec_lt program_bytes (length p))
     go (yes l) = let z : bad program_length program_bytes ≡ got x end = rw (lt-leb (length p) program_bytes l) at h in (let q : ◌≡◌ {A = ℕ} 0 1 = cc in omega arith)
     go (no n) = omega arith
 
--- the check may begin
-pub body_ready : (s t a : List ℕ) → Accepted s → Knows s [] t → length a ≡ around_words → Ready s t a
-body_ready s t a ok k l = record { is_accepted = ok; long = k.long; wide = l }
-
-module _ (s p t : List ℕ) (n start : ℕ) (a w : List ℕ) (ok : Accepted s) (k : Knows s [] t) (e₁ : n ≡ variables p) (e₂ : start ≡ body_at n)
-    (all : AllAdded p n (0 ∷ 0 ∷ []) w) (ea : get_or a 0 0 ≡ 0) (er : get_or a 10 0 ≡ get_or w 0 0) (et : get_or a 11 0 ≡ get_or w 1 0) (o : ℕ)
-    (f : CheckedAt s p t (context_of a 0 0 0) statement_depth start o) where
+module _ (s p : List ℕ) (t : Table) (n start : ℕ) (w : Labels) (ok : Accepted s) (k : Knows s [] t) (e₁ : n ≡ variables p) (e₂ : start ≡ body_at n)
+    (all : AllAdded p n (record { readers = 0; trusters = 0 }) w) (o : ℕ) (f : CheckedAt s p t (carried (around.Outside w) empty_context) statement_depth start o) where
   -- no transaction around it, and the roles among the labels of all variables
-  body_outside : LabelsBelow (roles s) p (variables p) → Outside p (variables p) (around_of a)
+  body_outside : LabelsBelow (roles s) p (variables p) → Outside p (variables p) w
   unfolding LabelsBelow AllAdded
   body_outside below =
-      let e : w ≡ labels_added p (all_below (variables p)) (0 ∷ 0 ∷ []) = rw e₁ at all (λ side x l n. lt_of_lt_of_le (below side x l n) (accepted_facts s ok).roles_fit) in
+      let e : w ≡ labels_added p (all_below (variables p)) (record { readers = 0; trusters = 0 }) = rw e₁ at all (λ side x l n. lt_of_lt_of_le (below side x l n) (accepted_facts s ok).roles_fit) in
       record {
-        flag = rw ea;
-        readers_are = er ∙ ap (λ (l : List ℕ). get_or l 0 0) e ∙ or_zero_r (expr_roles p reading (all_below (variables p)));
-        trusters_are = et ∙ ap (λ (l : List ℕ). get_or l 1 0) e ∙ or_zero_r (expr_roles p trust (all_below (variables p)));
+        readers_are = ap (λ (l : Labels). l.readers) e ∙ or_zero_r (expr_roles p reading (all_below (variables p)));
+        trusters_are = ap (λ (l : Labels). l.trusters) e ∙ or_zero_r (expr_roles p trust (all_below (variables p)));
       }
 
   body_is : (x : Stmt) (end : ℕ) → read_program p (principals s) (roles s) ≡ got x end → told o ≡ checked_to (flow s p outside [] (λ side. []) x) end
@@ -83,7 +76,7 @@ module _ (s p t : List ℕ) (n start : ℕ) (a w : List ℕ) (ok : Accepted s) (
         context = context_none (roles s);
       }) (rw at u.body_read) (u.fits, tt)
 
-  pub body_fine : o < place_limit → BodyVerdict s p Fine
+  pub body_fine : o < place_limit → BodyVerdict s p (Ok tt)
   unfolding BodyVerdict checked_to
   body_fine g x end h = go (flow s p outside [] (λ side. []) x) (sym (position_told o g) ∙ body_is x end h)
     where
@@ -91,7 +84,7 @@ module _ (s p t : List ℕ) (n start : ℕ) (a w : List ℕ) (ok : Accepted s) (
       go fine e = refl
       go (refused n place) e = reached_not e
 
-  pub body_refused : (l place : ℕ) → place_limit ≤ o → l ≡ o / place_limit → place ≡ o % place_limit → BodyVerdict s p (Refused l place)
+  pub body_refused : (l place : ℕ) → place_limit ≤ o → l ≡ o / place_limit → place ≡ o % place_limit → BodyVerdict s p (Err (record { number = l; place = place }))
   unfolding BodyVerdict checked_to
   body_refused l place g e f x end h = go (flow s p outside [] (λ side. []) x) (rw (e, f) (sym (refusal_told o g)) ∙ body_is x end h)
     where
@@ -99,19 +92,21 @@ module _ (s p t : List ℕ) (n start : ℕ) (a w : List ℕ) (ok : Accepted s) (
       go fine e = reached_not (sym e)
       go (refused m q) e = cc
 
-pub ruleset bodies = (body_ready, body_fine, body_refused)
+pub ruleset bodies = (body_fine, body_refused)
 
 -- the reading
-module _ (s p : List ℕ) (P R : ℕ) (e₁ : P ≡ principals s) (e₂ : R ≡ roles s) (o : Answer) (h : reached_by o ≡ end_of (read_program p P R)) where
-  pub read_refused : (k place : ℕ) → o ≡ answer.Refused k place → refused k place ≡ body_verdict s p (read_program p (principals s) (roles s))
+module _ (s p : List ℕ) (P R : ℕ) (e₁ : P ≡ principals s) (e₂ : R ≡ roles s) (o : Result ℕ RefusedAt) (h : reached_by o ≡ end_of (read_program p P R)) where
+  -- the refusal of a reading is passed on as it came
+  pub read_refused : (e : RefusedAt) (r : Result ⊤ RefusedAt) → o ≡ Err e → IsErrAnd r (λ x. x ≡ e) → verdict_of r ≡ body_verdict s p (read_program p (principals s) (roles s))
   unfolding end_of body_verdict
-  read_refused k place g = go (read_program p (principals s) (roles s)) (ap reached_by (sym g) ∙ h ∙ rw (e₁, e₂))
+  read_refused e (Err x) g q = rw q (go (read_program p (principals s) (roles s)) (ap reached_by (sym g) ∙ h ∙ rw (e₁, e₂)))
     where
-      go : (r : Reading Stmt) → stopped k place ≡ end_of r → refused k place ≡ body_verdict s p r
-      go (got x end) e = reached_not (sym e)
-      go (bad m q) e = cc
+      go : (b : Reading Stmt) → stopped e.number e.place ≡ end_of b → refused e.number e.place ≡ body_verdict s p b
+      go (got x end) k = reached_not (sym k)
+      go (bad m q) k = cc
+  read_refused e (Ok _) g q = elim q [ ]
 
-  pub read_body : (m : ℕ) (r : Verdict) → o ≡ answer.At m → BodyVerdict s p r → verdict_of r ≡ body_verdict s p (read_program p (principals s) (roles s))
+  pub read_body : (m : ℕ) (r : Result ⊤ RefusedAt) → o ≡ Ok m → BodyVerdict s p r → verdict_of r ≡ body_verdict s p (read_program p (principals s) (roles s))
   unfolding BodyVerdict end_of body_verdict
   read_body m r g f = go (read_program p (principals s) (roles s)) (ap reached_by (sym g) ∙ h ∙ rw (e₁, e₂)) f
     where
@@ -128,7 +123,7 @@ module _ (s p : List ℕ) (n : ℕ) (e : n ≡ policy_number s) where
   pub policy_accepted : n ≡ 0 → Accepted s
   policy_accepted h = sym e ∙ h
 
-  pub policy_fine : (r : Verdict) → n ≡ 0 → verdict_of r ≡ body_verdict s p (read_program p (principals s) (roles s)) → verdict_of r ≡ program_verdict s p
+  pub policy_fine : (r : Result ⊤ RefusedAt) → n ≡ 0 → verdict_of r ≡ body_verdict s p (read_program p (principals s) (roles s)) → verdict_of r ≡ program_verdict s p
   unfolding program_verdict
   policy_fine r h f = rw (sym e ∙ h) f
 

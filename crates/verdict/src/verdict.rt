@@ -6,75 +6,72 @@ ghost use Rattle.model.specs.Program.{read_program};
 ghost use Rattle.model.specs.Flow.{body_verdict, program_verdict};
 ghost use Rattle.verdict.specs.Verdict.{verdict_of, BodyVerdict};
 
-use context::around;
+use context::around::{Around, Context};
+use context::files::Files;
 use flow::check;
 use gathered::labels;
+use gathered::labels::Labels;
 use order::table;
+use order::table::Row;
 use policy::rows;
-use program::answer::Answer;
+use program::answer::RefusedAt;
 use program::{answer, layout};
 use shared::{limit, number};
 
-// Nothing against the program; or document 01's number and the place in the program that shows it, 0 for the policy's.
-#[derive(Clone, Copy)]
-pub enum Verdict {
-    Fine,
-    Refused(u32, usize),
-}
-
 // The flow rules on a program that was read: no transaction around it, nothing known, empty contexts.
-fn body_verdict(policy: &[u8], program: &[u8]) -> Verdict
+#[tactic(auto, using(crate::proofs::VerdictLaws::bodies))]
+fn body_verdict(policy: &[u8], program: &[u8]) -> Result<(), RefusedAt>
     requires { Accepted policy.now }
     ensures { BodyVerdict policy.now program.now result }
 {
-    let mut table = [0u64; table::TABLE_WORDS];
+    let mut table = [Row::default(); table::TABLE_ROWS];
     order::base::base_table(policy, &mut table);
     let variables = layout::variables_of(program);
-    let mut labels = [0u64; 2];
-    labels::all_labels(program, variables, &mut labels);
-    let mut around = [0u64; around::WORDS];
-    around[around::READERS] = labels[0];
-    around[around::TRUSTERS] = labels[1];
+    let none = Labels {
+        readers: 0,
+        trusters: 0,
+    };
+    let mut all = none;
+    labels::all_labels(program, variables, &mut all);
+    let context = Context {
+        labels: none,
+        asked: 0,
+    };
     let start = layout::body_at(variables);
     let checked = check::check_stmt(
-        &policy,
-        &program,
+        &Files { policy, program },
         &table,
-        &around,
-        0,
-        0,
-        0,
+        &Around::Outside(all),
+        &context,
         limit::STATEMENT_DEPTH,
         start,
     );
     if checked < answer::REFUSED {
-        return Verdict::Fine;
+        return Ok(());
     }
-    Verdict::Refused(answer::number_of(checked), answer::place_of(checked))
+    Err(RefusedAt {
+        number: answer::number_of(checked),
+        place: answer::place_of(checked),
+    })
 }
 
 // The program is read, then checked.
-fn read_verdict(policy: &[u8], program: &[u8]) -> Verdict
+fn read_verdict(policy: &[u8], program: &[u8]) -> Result<(), RefusedAt>
     requires { Accepted policy.now }
     ensures { verdict_of result ≡ body_verdict policy.now program.now (read_program program.now (principals policy.now) (roles policy.now)) }
 {
-    let read = parser::file::read_program(
-        program,
-        rows::principals_of(policy),
-        rows::roles_of(policy),
-    );
-    match read {
-        Answer::At(_) => body_verdict(policy, program),
-        Answer::Refused(number, place) => Verdict::Refused(number, place),
-    }
+    parser::file::read_program(program, rows::principals_of(policy), rows::roles_of(policy))?;
+    body_verdict(policy, program)
 }
 
-pub fn program_verdict(policy: &[u8], program: &[u8]) -> Verdict
+// Nothing against the program; or document 01's number and the place in the program that shows it, 0 for the policy's.
+#[tactic(auto, using(crate::proofs::VerdictLaws::policies))]
+pub fn program_verdict(policy: &[u8], program: &[u8]) -> Result<(), RefusedAt>
     ensures { verdict_of result ≡ program_verdict policy.now program.now }
 {
     let number = policy::check::policy_number(policy);
     if number == number::ACCEPTED {
         return read_verdict(policy, program);
     }
-    Verdict::Refused(number, 0)
+    Err(RefusedAt { number, place: 0 })
 }

@@ -1,7 +1,7 @@
 -- The cycle of checks: each return is the verdict of the tree that stands at the position, by a law for that return; the
 -- remaining depth falls, and where it stays each callee comes after its caller. A block: what is left of it decides.
 use Rattle.std.proofs.Common.{◌+◌, ◌*◌}
-use Rattle.context.specs.Context.{context_of}
+use Rattle.context.specs.Context.{carried}
 use Rattle.flow.proofs.CheckLaws.{Blocking}
 use Rattle.flow.proofs.check.+checking.Given as goal
 
@@ -42,8 +42,7 @@ abbrev pub decreases-check_while : goal.decreases-check_while
 decreases-check_while l = 7 * l.depth
 
 abbrev pub invariant-check_block-loop-left : goal.invariant-check_block-loop-left
-invariant-check_block-loop-left l = Blocking l.policy.now l.program.now l.table (context_of l.around l.readers l.trusters l.asked) l.depth l.at l.left l.next
+invariant-check_block-loop-left l = Blocking l.files.policy.now l.files.program.now l.table (carried l.around l.context) l.depth l.at l.left l.next
 
--- proposed from the loop's first test
 abbrev pub decreases-check_block-loop-left : goal.decreases-check_block-loop-left
 decreases-check_block-loop-left l = l.left

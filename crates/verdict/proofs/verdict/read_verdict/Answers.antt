@@ -3,14 +3,11 @@ use Rattle.flow.proofs.CheckLaws.{few_roles}
 use Rattle.verdict.proofs.VerdictLaws.{read_body, read_refused}
 use Rattle.verdict.proofs.verdict.read_verdict.Goals as goal
 
--- src/verdict.rt:61:9
-pub read_program-read-requires : goal.read_program-read-requires
-read_program-read-requires c = first_of (search (rules, few_roles), search (rules, read_body), search (rules, read_refused))
+pub read_program-requires : goal.read_program-requires
+read_program-requires c = search (rules, few_roles)
 
--- src/verdict.rt:57:1
-pub returns-in-At : goal.returns-in-At
-returns-in-At c = first_of (search (rules, few_roles), search (rules, read_body), search (rules, read_refused))
+pub returns-in_err-read_program : goal.returns-in_err-read_program
+returns-in_err-read_program c = read_refused _ _ _ _ c.principals_of.ensures c.roles_of.ensures _ c.read_program.ensures _ _ c.in_err-read_program.was c.from_residual.ensures.1
 
--- src/verdict.rt:57:1
-pub returns-in-Refused : goal.returns-in-Refused
-returns-in-Refused c = first_of (search (rules, few_roles), search (rules, read_body), search (rules, read_refused))
+pub returns : goal.returns
+returns c = read_body _ _ _ _ c.principals_of.ensures c.roles_of.ensures _ c.read_program.ensures _ _ c.in_ok-read_program.was c.body_verdict.ensures
