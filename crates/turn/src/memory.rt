@@ -1,4 +1,4 @@
-// The values of a memory as words, and back; words and bytes from one buffer to another.
+// The values of a memory as words, and back; words from one buffer to another.
 ghost use Rattle.std.specs.Prelude.{◌≡◌, ◌*◌, ◌<◌, ◌≤◌, length, take};
 ghost use Rattle.model.specs.Memory.{memory_of};
 ghost use Rattle.turn.specs.Memory.{Kept};
@@ -11,10 +11,9 @@ pub fn load(memory: &[u8], words: &mut [u32], vars: usize)
     ensures loaded { memory_of (take vars words.new) ≡ memory.now }
     ensures kept { Kept vars words.old words.new }
 {
-    let mut x = 0;
-    while x < vars {
+    // By index: a value's bytes stand at four times its place.
+    for x in 0..vars {
         words[x] = bytes::word32(memory, 4 * x);
-        x += 1;
     }
 }
 
@@ -23,10 +22,8 @@ pub fn store(memory: &mut [u8], words: &[u32], vars: usize)
     requires { (length memory.old ≡ 4 * vars) × (vars ≤ length words.now) }
     ensures { memory.new ≡ memory_of (take vars words.now) }
 {
-    let mut x = 0;
-    while x < vars {
+    for x in 0..vars {
         bytes::put32(memory, 4 * x, words[x]);
-        x += 1;
     }
 }
 
@@ -36,21 +33,5 @@ pub fn copy_words(from: &[u32], to: &mut [u32], n: usize)
     ensures copied { take n to.new ≡ take n from.now }
     ensures kept { Kept n to.old to.new }
 {
-    let mut i = 0;
-    while i < n {
-        to[i] = from[i];
-        i += 1;
-    }
-}
-
-// All bytes of another buffer of the same length.
-pub fn copy_bytes(from: &[u8], to: &mut [u8])
-    requires { length from.now ≡ length to.old }
-    ensures { to.new ≡ from.now }
-{
-    let mut i = 0;
-    while i < to.len() {
-        to[i] = from[i];
-        i += 1;
-    }
+    to[..n].copy_from_slice(&from[..n]);
 }

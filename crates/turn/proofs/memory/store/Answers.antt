@@ -2,14 +2,11 @@ use Rattle.std.proofs.Common.{rules}
 use Rattle.turn.proofs.MemoryLaws.{stores}
 use Rattle.turn.proofs.memory.store.Goals as goal
 
--- src/memory.rt:27:5
 pub loop-x-init : goal.loop-x-init
 loop-x-init c = search (rules, stores)
 
--- src/memory.rt:27:5
 pub loop-x-preserved : goal.loop-x-preserved
 loop-x-preserved c = search (rules, stores)
 
--- src/memory.rt:22:1
 pub returns : goal.returns
 returns c = search (rules, stores)

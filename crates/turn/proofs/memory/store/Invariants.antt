@@ -1,10 +1,6 @@
-use Rattle.std.proofs.Common.{◌-◌, ◌≡◌, ◌*◌, ◌≤◌, length}
+use Rattle.std.proofs.Common.{◌≡◌, ◌*◌, length}
 use Rattle.model.proofs.Memory.{stored}
 use Rattle.turn.proofs.memory.store.Given as goal
 
 abbrev pub invariant-loop-x : goal.invariant-loop-x
-invariant-loop-x l = (l.x ≤ l.vars) × ((length l.memory ≡ 4 * l.vars) × (l.memory ≡ stored l.words l.initial.memory l.x))
-
--- proposed from the loop's first test
-abbrev pub decreases-loop-x : goal.decreases-loop-x
-decreases-loop-x l = l.vars - l.x
+invariant-loop-x l = (length l.memory ≡ 4 * l.vars) × (l.memory ≡ stored l.words l.initial.memory l.x)
