@@ -1,5 +1,5 @@
 -- The buffers have room, and are blank where they must be.
-use Prim.Native.Nat.{ℕ, ◌<◌, ◌≤◌}
+use Prim.Native.Nat.{ℕ, ◌+◌, ◌*◌, ◌<◌, ◌≤◌}
 use native.Mathlib.Omega.{arith}
 use mathlib.Core.Path.{◌≡◌, refl, sym}
 use mathlib.Core.List.{List}
@@ -9,7 +9,6 @@ use native.Mathlib.Decide.{dec_lt}
 use Rattle.model.specs.Policy.{row_bytes, row_at, policy_bytes}
 use Rattle.model.proofs.Accepted.{accepted_facts}
 use Rattle.compile.specs.Represents.{Blank}
-use Rattle.tracked.specs.Live.{atom_words}
 use Rattle.tracked.specs.Index.{index_words}
 use Rattle.execution.specs.Execution.{Admitted, Rooms, Loadable}
 use Rattle.machine.proofs.Running.{program_short}
@@ -34,29 +33,27 @@ module _ (s p m : List ℕ) (vars fuel : ℕ) (h : Admitted s p m vars fuel) whe
   unfolding policy_bytes row_bytes row_at
   policy_short = let f = accepted_facts s h.begins.program.policy in let l = f.long in let k = f.roles_fit in omega arith
 
-  pub copy_large : (w : List ℕ) → length w ≡ 1415 → length s ≤ length w
-  copy_large w e = let l = policy_short in omega arith
+  pub copy_large : (length s ≤ 1415) × (1415 ≤ 1415)
+  copy_large = let l = policy_short in (l, omega arith)
 
   pub copy_count : (w : List ℕ) → length s ≤ length w → length s ≡ length (take (length s) w)
   copy_count w l = sym (length-take-le (length s) w l)
 
-  pub tracked_loadable : (code words w sets : List ℕ) → Rooms p code words → length s ≤ length w → length sets ≡ atom_words → Loadable s p m vars code words (take (length s) w) sets (zeros index_words)
-  tracked_loadable code words w sets r l f =
-      record { verdict = h.begins.verdict; vars_are = h.vars_are; memory_fits = rw h.vars_are h.begins.memory_fits; rooms = r; same_length = copy_count w l; sets_many = f; index_blank = refl }
-
-pub ruleset tracking = (copy_count, tracked_loadable)
+  pub tracked_loadable : (code words w : List ℕ) → Rooms p code words → length s ≤ length w → Loadable s p m vars code words (take (length s) w) (zeros index_words)
+  tracked_loadable code words w r l =
+      record { verdict = h.begins.verdict; vars_are = h.vars_are; memory_fits = rw h.vars_are h.begins.memory_fits; rooms = r; same_length = copy_count w l; index_blank = refl }
 
 -- room for the code and the words
 module _ (s p m : List ℕ) (vars fuel : ℕ) (h : Admitted s p m vars fuel) where
-  pub small_rooms : length p ≤ 128 → (words : List ℕ) → length words ≡ 192 → Rooms p (zeros 512) words
-  small_rooms l words e =
-      let k = zeros_length 512 in
-      record { room = record { short = omega arith; nodes_many = omega arith; words_many = omega arith }; blank = blank 512 }
+  pub rooms_for : (nodes many : ℕ) → 4 * length p ≤ nodes → 64 + length p ≤ many → Rooms p (zeros nodes) (zeros many)
+  rooms_for nodes many l k =
+      let x = zeros_length nodes in
+      let y = zeros_length many in
+      let z = program_short s p h.begins.program.is_read in
+      record { room = record { short = z; nodes_many = omega arith; words_many = omega arith }; blank = blank nodes }
 
-  pub large_rooms : (words : List ℕ) → length words ≡ 4160 → Rooms p (zeros 16384) words
-  large_rooms words e =
-      let k = zeros_length 16384 in
-      let l = program_short s p h.begins.program.is_read in
-      record { room = record { short = l; nodes_many = omega arith; words_many = omega arith }; blank = blank 16384 }
+  pub large_nodes : (4 * length p ≤ 16384) × (16384 ≤ 16384)
+  large_nodes = let z = program_short s p h.begins.program.is_read in (omega arith, omega arith)
 
-pub ruleset rooms = (small_rooms, large_rooms)
+  pub large_words : (64 + length p ≤ 4160) × (4160 ≤ 4160)
+  large_words = let z = program_short s p h.begins.program.is_read in (omega arith, omega arith)

@@ -1,7 +1,7 @@
 -- A law for each return of execute.rt: what the loop gives, written into the caller's buffers, is what the run rules give.
 use Prim.Native.Nat.{ℕ, ◌-◌, ◌*◌, ◌≤◌}
 use native.Mathlib.Omega.{arith}
-use mathlib.Core.Path.{◌≡◌, refl, ap, ◌∙◌}
+use mathlib.Core.Path.{◌≡◌, refl, sym, ap, ◌∙◌}
 use mathlib.Core.List.{List}
 use lib.ListN.{length, take, replicate}
 use Rattle.model.specs.Limits.{variable_limit}
@@ -11,25 +11,21 @@ use Rattle.model.specs.Calls.{ended, run_answer}
 use Rattle.model.specs.Machine.{answer_of}
 use Rattle.model.proofs.FlowParts.{accepted_program}
 use Rattle.compile.specs.Represents.{Compiles}
-use Rattle.tracked.specs.Live.{atom_words}
 use Rattle.tracked.specs.Index.{index_words, Tracked}
-use Rattle.turn.specs.declared.fuel.Stop.{Stop}
-use Rattle.turn.specs.declared.fuel.Stop.TheVariants.{Finished, Spent}
+use Rattle.std.proofs.Common.{Result, Ok, Err}
+use Rattle.turn.specs.declared.fuel.Spent.{Spent}
 use Rattle.turn.specs.Memory.{Kept}
 use Rattle.machine.specs.Steps.{Ready, ending_of, StopsAs, left_of}
 use Rattle.execution.specs.Execution.{Admitted, Loadable, Loaded, Executed, Finishable}
 use Rattle.machine.proofs.Running.{represents_kept}
 
 -- loading
-module _ (s p m : List ℕ) (vars : ℕ) (code words working sets index : List ℕ) (h : Loadable s p m vars code words working sets index) where
-  pub load_copy : length s ≡ length working
-  load_copy = h.same_length
+module _ (s p m : List ℕ) (vars : ℕ) (code words working index : List ℕ) (h : Loadable s p m vars code words working index) where
+  pub load_copy : length working ≡ length s
+  load_copy = sym h.same_length
 
   pub load_accepted : (t : List ℕ) → t ≡ s → Accepted t
   load_accepted t e = rw e (accepted_program s p h.verdict).policy
-
-  pub load_sets : length sets ≡ atom_words
-  load_sets = h.sets_many
 
   pub load_index : index ≡ replicate index_words 0
   load_index = h.index_blank
@@ -63,16 +59,16 @@ module _ (s p m : List ℕ) (vars : ℕ) (code words working sets index : List �
         values = values;
       }
 
-pub ruleset loading = (load_copy, load_accepted, load_sets, load_index, load_memory, load_vars, load_done)
+pub ruleset loading = (load_copy, load_accepted, load_index, load_memory, load_vars, load_done)
 
 -- finishing
-module _ (s m t w : List ℕ) (vars fuel : ℕ) (stop : Stop) where
+module _ (s m t w : List ℕ) (vars fuel : ℕ) (stop : Result ℕ Spent) where
   module _ (h : Finishable s m t w vars fuel stop) where
-    pub finish_left : (left : ℕ) → stop ≡ Finished left → left ≤ fuel
+    pub finish_left : (left : ℕ) → stop ≡ Ok left → left ≤ fuel
     finish_left left e = rw e at h.within
 
-    pub finish_policy : length t ≡ length s
-    finish_policy = h.same_length
+    pub finish_policy : length s ≡ length t
+    finish_policy = sym h.same_length
 
     pub finish_memory : length m ≡ 4 * vars
     finish_memory = h.memory_fits
@@ -80,13 +76,13 @@ module _ (s m t w : List ℕ) (vars fuel : ℕ) (stop : Stop) where
     pub finish_words : vars ≤ length w
     finish_words = h.words_many
 
-  pub finish_done : (left : ℕ) (s₁ m₁ : List ℕ) → stop ≡ Finished left → s₁ ≡ t → m₁ ≡ memory_of (take vars w) → ended 0 (fuel - left) s₁ m₁ ≡ answer_of s m fuel (ending_of stop t (memory_of (take vars w)))
+  pub finish_done : (left : ℕ) (s₁ m₁ : List ℕ) → stop ≡ Ok left → s₁ ≡ t → m₁ ≡ memory_of (take vars w) → ended 0 (fuel - left) s₁ m₁ ≡ answer_of s m fuel (ending_of stop t (memory_of (take vars w)))
   unfolding answer_of
   finish_done left s₁ m₁ e f g = rw (e, f, g) refl
 
-  pub finish_spent : stop ≡ Spent → ended 22 fuel s m ≡ answer_of s m fuel (ending_of stop t (memory_of (take vars w)))
+  pub finish_spent : (e : Spent) → stop ≡ Err e → ended 22 fuel s m ≡ answer_of s m fuel (ending_of stop t (memory_of (take vars w)))
   unfolding answer_of
-  finish_spent e = rw e refl
+  finish_spent spent e = rw e refl
 
 pub ruleset finishing = (finish_left, finish_policy, finish_memory, finish_words, finish_done, finish_spent)
 
@@ -105,7 +101,7 @@ module _ (s p m : List ℕ) (vars fuel : ℕ) (code words working sets index : L
         words_many = l.room.words_many;
       })
 
-  pub run_executed : (stop : Stop) (t words₁ : List ℕ) → StopsAs working p words vars fuel stop t words₁ → left_of stop ≤ fuel → length t ≡ length working → length words₁ ≡ length words
+  pub run_executed : (stop : Result ℕ Spent) (t words₁ : List ℕ) → StopsAs working p words vars fuel stop t words₁ → left_of stop ≤ fuel → length t ≡ length working → length words₁ ≡ length words
       → Executed s p m vars fuel stop t words₁
   unfolding StopsAs
   run_executed stop t words₁ a b c d =
@@ -115,7 +111,7 @@ module _ (s p m : List ℕ) (vars fuel : ℕ) (code words working sets index : L
 
 pub ruleset executing = (run_ready, run_executed)
 
-module _ (s p m : List ℕ) (vars fuel : ℕ) (stop : Stop) (working words : List ℕ) (e : Executed s p m vars fuel stop working words) where
+module _ (s p m : List ℕ) (vars fuel : ℕ) (stop : Result ℕ Spent) (working words : List ℕ) (e : Executed s p m vars fuel stop working words) where
   pub run_finishes : Admitted s p m vars fuel → Finishable s m working words vars fuel stop
   run_finishes h = record { same_length = e.same_length; memory_fits = rw h.vars_are h.begins.memory_fits; words_many = e.words_many; within = e.within }
 

@@ -1,5 +1,5 @@
 -- What a run needs beside the caller's buffers, and what it has when it begins.
-use Rattle.std.specs.Prelude.{ℕ, ◌*◌, ◌≤◌, ◌≡◌, List, length, take, replicate}
+use Rattle.std.specs.Prelude.{ℕ, ◌*◌, ◌≤◌, ◌≡◌, List, length, take, replicate, Result}
 use Rattle.model.specs.Number.{fine}
 use Rattle.model.specs.Program.{variables}
 use Rattle.model.specs.Flow.{program_verdict}
@@ -9,9 +9,8 @@ use Rattle.compile.specs.Emits.{Room}
 use Rattle.compile.specs.Represents.{Blank, Starts}
 use Rattle.model.specs.Machine.{answer_of}
 use Rattle.model.specs.Calls.{run_answer}
-use Rattle.tracked.specs.Live.{atom_words}
 use Rattle.tracked.specs.Index.{index_words, Tracked}
-use Rattle.turn.specs.declared.fuel.Stop.{Stop}
+use Rattle.turn.specs.declared.fuel.Spent.{Spent}
 use Rattle.machine.specs.Steps.{left_of, ending_of}
 
 -- a run that is not refused, and the number of its variables
@@ -25,13 +24,12 @@ pub record Rooms (p code words : List ℕ) : Type 0 where
   pub blank : Blank code
 
 -- an accepted policy and program with a memory that fits, and buffers that have room
-pub record Loadable (s p m : List ℕ) (vars : ℕ) (code words working sets index : List ℕ) : Type 0 where
+pub record Loadable (s p m : List ℕ) (vars : ℕ) (code words working index : List ℕ) : Type 0 where
   pub verdict : program_verdict s p ≡ fine
   pub vars_are : vars ≡ variables p
   pub memory_fits : length m ≡ 4 * vars
   pub rooms : Rooms p code words
   pub same_length : length s ≡ length working
-  pub sets_many : length sets ≡ atom_words
   pub index_blank : index ≡ replicate index_words 0
 
 -- a copy of the policy with what is tracked of it, the program's code and the values of the memory
@@ -43,14 +41,14 @@ pub record Loaded (s p m : List ℕ) (vars : ℕ) (code words working sets index
   pub values : memory_of (take vars words) ≡ m
 
 -- how a run stopped, with a copy of the policy and with words as it left them: that gives the run's answer
-pub record Executed (s p m : List ℕ) (vars fuel : ℕ) (stop : Stop) (working words : List ℕ) : Type 0 where
+pub record Executed (s p m : List ℕ) (vars fuel : ℕ) (stop : Result ℕ Spent) (working words : List ℕ) : Type 0 where
   pub answers : answer_of s m fuel (ending_of stop working (memory_of (take vars words))) ≡ run_answer s p m fuel
   pub within : left_of stop ≤ fuel
   pub same_length : length working ≡ length s
   pub words_many : vars ≤ length words
 
 -- what is written at a run's end fits
-pub record Finishable (s m working words : List ℕ) (vars fuel : ℕ) (stop : Stop) : Type 0 where
+pub record Finishable (s m working words : List ℕ) (vars fuel : ℕ) (stop : Result ℕ Spent) : Type 0 where
   pub same_length : length working ≡ length s
   pub memory_fits : length m ≡ 4 * vars
   pub words_many : vars ≤ length words

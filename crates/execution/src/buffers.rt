@@ -1,10 +1,10 @@
 // The buffers of a run beside the caller's, of two sizes.
-ghost use Rattle.std.specs.Prelude.{◌≡◌, ◌≤◌, length};
+ghost use Rattle.std.specs.Prelude.{◌≡◌, ◌+◌, ◌*◌, ◌≤◌, length};
 ghost use Rattle.model.specs.Calls.{ended, run_answer};
-ghost use Rattle.execution.specs.Execution.{Admitted, Rooms};
+ghost use Rattle.execution.specs.Execution.{Admitted};
 
 use super::execute;
-use super::execute::Answer;
+use super::execute::{Answer, Buffers};
 use code::words;
 use shared::limit;
 use tracked::{atoms, index};
@@ -27,74 +27,58 @@ const SMALL_WORDS: usize = words::VARIABLES + SMALL_BYTES;
 
 const LARGE_WORDS: usize = words::VARIABLES + limit::PROGRAM_BYTES;
 
-// With room for the code, the words and a copy of the policy: what is tracked of the policy.
-fn run_tracked(
+// Runs in buffers that have room for the code, the words and a copy of the policy.
+// Kept: the caller's buffers, `vars` and `fuel` stay parameters. Of a struct that holds a `&mut` each function would have to ensure
+// beside the rest that it still holds the same one.
+fn run_within<const NODES: usize, const WORDS: usize, const POLICY: usize>(
     policy: &mut [u8],
     program: &[u8],
     memory: &mut [u8],
     vars: usize,
     fuel: u32,
-    code: &mut [u16],
-    words: &mut [u32],
-    copy: &mut [u8],
 ) -> Answer
-    requires { (Admitted policy.old program.now memory.old vars fuel) × Rooms program.now code.old words.old × (length policy.old ≤ length copy.old) }
+    requires admitted { Admitted policy.old program.now memory.old vars fuel }
+    requires nodes { (4 * length program.now ≤ NODES) × (NODES ≤ 16384) }
+    requires words { (64 + length program.now ≤ WORDS) × (WORDS ≤ 4160) }
+    requires copy { (length policy.old ≤ POLICY) × (POLICY ≤ 1415) }
     ensures { ended result.number result.units policy.new memory.new ≡ run_answer policy.old program.now memory.old fuel }
 {
     let n = policy.len();
-    let mut sets = [0u32; atoms::WORDS];
-    let mut index = [0u64; index::WORDS];
+    let mut copy = [0u8; POLICY];
+    let mut buffers: Buffers<NODES, WORDS> = Buffers {
+        code: [0; NODES],
+        words: [0; WORDS],
+        sets: [0; atoms::WORDS],
+        index: [0; index::WORDS],
+    };
     execute::run_in(
         policy,
         program,
         memory,
         vars,
         fuel,
-        code,
-        words,
         &mut copy[..n],
-        &mut sets,
-        &mut index,
+        &mut buffers,
     )
 }
 
-// With room for the code and the words: a copy of the policy, small where the policy is.
-fn run_beside(
+// The same, with a copy of the policy that is small where the policy is.
+fn run_beside<const NODES: usize, const WORDS: usize>(
     policy: &mut [u8],
     program: &[u8],
     memory: &mut [u8],
     vars: usize,
     fuel: u32,
-    code: &mut [u16],
-    words: &mut [u32],
 ) -> Answer
-    requires { (Admitted policy.old program.now memory.old vars fuel) × Rooms program.now code.old words.old }
+    requires admitted { Admitted policy.old program.now memory.old vars fuel }
+    requires nodes { (4 * length program.now ≤ NODES) × (NODES ≤ 16384) }
+    requires words { (64 + length program.now ≤ WORDS) × (WORDS ≤ 4160) }
     ensures { ended result.number result.units policy.new memory.new ≡ run_answer policy.old program.now memory.old fuel }
 {
     if policy.len() <= SMALL_POLICY {
-        let mut copy = [0u8; SMALL_POLICY];
-        return run_tracked(policy, program, memory, vars, fuel, code, words, &mut copy);
+        return run_within::<NODES, WORDS, SMALL_POLICY>(policy, program, memory, vars, fuel);
     }
-    let mut copy = [0u8; POLICY_BYTES];
-    run_tracked(policy, program, memory, vars, fuel, code, words, &mut copy)
-}
-
-fn run_small(policy: &mut [u8], program: &[u8], memory: &mut [u8], vars: usize, fuel: u32) -> Answer
-    requires { (Admitted policy.old program.now memory.old vars fuel) × (length program.now ≤ 128) }
-    ensures { ended result.number result.units policy.new memory.new ≡ run_answer policy.old program.now memory.old fuel }
-{
-    let mut code = [0u16; SMALL_NODES];
-    let mut words = [0u32; SMALL_WORDS];
-    run_beside(policy, program, memory, vars, fuel, &mut code, &mut words)
-}
-
-fn run_large(policy: &mut [u8], program: &[u8], memory: &mut [u8], vars: usize, fuel: u32) -> Answer
-    requires { Admitted policy.old program.now memory.old vars fuel }
-    ensures { ended result.number result.units policy.new memory.new ≡ run_answer policy.old program.now memory.old fuel }
-{
-    let mut code = [0u16; LARGE_NODES];
-    let mut words = [0u32; LARGE_WORDS];
-    run_beside(policy, program, memory, vars, fuel, &mut code, &mut words)
+    run_within::<NODES, WORDS, POLICY_BYTES>(policy, program, memory, vars, fuel)
 }
 
 // A run that nothing refuses.
@@ -109,7 +93,7 @@ pub fn run_admitted(
     ensures { ended result.number result.units policy.new memory.new ≡ run_answer policy.old program.now memory.old fuel }
 {
     if program.len() <= SMALL_BYTES {
-        return run_small(policy, program, memory, vars, fuel);
+        return run_beside::<SMALL_NODES, SMALL_WORDS>(policy, program, memory, vars, fuel);
     }
-    run_large(policy, program, memory, vars, fuel)
+    run_beside::<LARGE_NODES, LARGE_WORDS>(policy, program, memory, vars, fuel)
 }

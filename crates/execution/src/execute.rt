@@ -9,37 +9,46 @@ ghost use Rattle.execution.specs.Execution.{Admitted, Loadable, Loaded, Executed
 
 use machine::steps;
 use shared::number;
-use turn::fuel::Stop;
+use tracked::{atoms, index};
+use turn::fuel::Spent;
 use turn::memory;
 use update::change;
 
-// What a run gives: document 01's number, and the units.
+// What a run gives: document 01's number, and the units. Kept as the two numbers: a run that is spent has a number other than 0
+// and units, so neither stands for the other's lack.
 #[derive(Clone, Copy)]
 pub struct Answer {
     pub number: u32,
     pub units: u32,
 }
 
+// What a run works on beside the caller's buffers and a copy of the policy: nodes of code, words of the values and of what the
+// code refers to, and what is tracked of the policy.
+#[derive(Drop)]
+pub struct Buffers<const NODES: usize, const WORDS: usize> {
+    pub code: [u16; NODES],
+    pub words: [u32; WORDS],
+    pub sets: [u32; atoms::WORDS],
+    pub index: [u64; index::WORDS],
+}
+
 // Fills what the run works on beside the caller's buffers: a copy of the policy with what is tracked of it, the code, the
 // values of the variables. The node where the run starts.
-fn load(
+fn load<const NODES: usize, const WORDS: usize>(
     policy: &[u8],
     program: &[u8],
     memory: &[u8],
     vars: usize,
-    code: &mut [u16],
-    words: &mut [u32],
     working: &mut [u8],
-    sets: &mut [u32],
-    index: &mut [u64],
+    buffers: &mut Buffers<NODES, WORDS>,
 ) -> usize
-    requires { Loadable policy.now program.now memory.now vars code.old words.old working.old sets.old index.old }
-    ensures { Loaded policy.now program.now memory.now vars code.new words.new working.new sets.new index.new result }
+    requires { Loadable policy.now program.now memory.now vars buffers.old.code buffers.old.words working.old buffers.old.index }
+    ensures { Loaded policy.now program.now memory.now vars buffers.new.code buffers.new.words working.new buffers.new.sets buffers.new.index result }
 {
-    memory::copy_bytes(policy, working);
-    change::track(working, sets, index);
-    let start = compile::compile::compile(program, code, words);
-    memory::load(memory, words, vars);
+    working.copy_from_slice(policy);
+    change::track(working, &mut buffers.sets, &mut buffers.index);
+    let start = compile::compile::compile(program, &mut buffers.code, &mut buffers.words);
+    memory::load(memory, &mut buffers.words, vars);
     start
 }
 
@@ -51,21 +60,21 @@ fn finish(
     words: &[u32],
     vars: usize,
     fuel: u32,
-    stop: Stop,
+    stop: Result<u32, Spent>,
 ) -> Answer
     requires { Finishable policy.old memory.old working.now words.now vars fuel stop }
     ensures { ended result.number result.units policy.new memory.new ≡ answer_of policy.old memory.old fuel (ending_of stop working.now (memory_of (take vars words.now))) }
 {
     match stop {
-        Stop::Finished(left) => {
-            memory::copy_bytes(working, policy);
+        Ok(left) => {
+            policy.copy_from_slice(working);
             memory::store(memory, words, vars);
             Answer {
                 number: number::ACCEPTED,
                 units: fuel - left,
             }
         }
-        Stop::Spent => Answer {
+        Err(Spent) => Answer {
             number: number::FUEL_SPENT,
             units: fuel,
         },
@@ -73,47 +82,45 @@ fn finish(
 }
 
 // The run itself, in buffers beside the caller's: how it stops. `working` and the first of `words` are left as it leaves them.
-fn execute(
+fn execute<const NODES: usize, const WORDS: usize>(
     policy: &[u8],
     program: &[u8],
     memory: &[u8],
     vars: usize,
     fuel: u32,
-    code: &mut [u16],
-    words: &mut [u32],
     working: &mut [u8],
-    sets: &mut [u32],
-    index: &mut [u64],
-) -> Stop
-    requires { (Admitted policy.now program.now memory.now vars fuel) × Loadable policy.now program.now memory.now vars code.old words.old working.old sets.old index.old }
-    ensures { Executed policy.now program.now memory.now vars fuel result working.new words.new }
+    buffers: &mut Buffers<NODES, WORDS>,
+) -> Result<u32, Spent>
+    requires { (Admitted policy.now program.now memory.now vars fuel) × Loadable policy.now program.now memory.now vars buffers.old.code buffers.old.words working.old buffers.old.index }
+    ensures { Executed policy.now program.now memory.now vars fuel result working.new buffers.new.words }
 {
-    let start = load(
-        policy, program, memory, vars, code, words, working, sets, index,
-    );
+    let start = load(policy, program, memory, vars, working, buffers);
     steps::steps(
-        program, code, words, working, sets, index, vars, start, fuel,
+        program,
+        &buffers.code,
+        &mut buffers.words,
+        working,
+        &mut buffers.sets,
+        &mut buffers.index,
+        vars,
+        start,
+        fuel,
     )
 }
 
 // The same, and its end in the caller's buffers.
-pub fn run_in(
+pub fn run_in<const NODES: usize, const WORDS: usize>(
     policy: &mut [u8],
     program: &[u8],
     memory: &mut [u8],
     vars: usize,
     fuel: u32,
-    code: &mut [u16],
-    words: &mut [u32],
     working: &mut [u8],
-    sets: &mut [u32],
-    index: &mut [u64],
+    buffers: &mut Buffers<NODES, WORDS>,
 ) -> Answer
-    requires { (Admitted policy.old program.now memory.old vars fuel) × Loadable policy.old program.now memory.old vars code.old words.old working.old sets.old index.old }
+    requires { (Admitted policy.old program.now memory.old vars fuel) × Loadable policy.old program.now memory.old vars buffers.old.code buffers.old.words working.old buffers.old.index }
     ensures { ended result.number result.units policy.new memory.new ≡ run_answer policy.old program.now memory.old fuel }
 {
-    let stop = execute(
-        policy, program, memory, vars, fuel, code, words, working, sets, index,
-    );
-    finish(policy, memory, working, words, vars, fuel, stop)
+    let stop = execute(policy, program, memory, vars, fuel, working, buffers);
+    finish(policy, memory, working, &buffers.words, vars, fuel, stop)
 }

@@ -8,13 +8,14 @@ ghost use Rattle.tracked.specs.Index.{known_at, index_words, current, placed, Tr
 ghost use Rattle.settling.specs.Settle.{Settling, Settled, Spread};
 
 use policy::rows;
-use shared::{bytes, sets};
+use shared::sets;
 use tracked::{atoms, index};
 
 // The roles in `start`, those that take one of them in, those that take in one of these, and so on. Each is looked at once, and
 // those not at all that are already found: from them one of `start` is reached, and whatever takes one of them in is found too.
-fn climb(index: &[u64], start: u64, found: u64) -> u64
-    requires { (length index.now ≡ index_words) × Upward (current index.now) start found }
+#[tactic(auto, using(crate::proofs::SettleLaws::climbings))]
+fn climb(index: &[u64; index::WORDS], start: u64, found: u64) -> u64
+    requires { Upward (current index.now) start found }
     ensures { Reaching (current index.now) start result }
 {
     let mut seen = start | found;
@@ -32,8 +33,9 @@ fn climb(index: &[u64], start: u64, found: u64) -> u64
 // The same, with what is known of roles. Where all of `start` are known it is the union of their words, and no chain of steps
 // that take 3 ns each. Else one that is not known is looked at alone and noted. That adds no step, since the others go on from
 // what it found.
-fn reaching(index: &mut [u64], start: u64) -> u64
-    requires { (length index.old ≡ index_words) × Known (current index.old) index.old (get_or index.old known_at 0) }
+#[tactic(auto, using(crate::proofs::SettleLaws::reachings))]
+fn reaching(index: &mut [u64; index::WORDS], start: u64) -> u64
+    requires { Known (current index.old) index.old (get_or index.old known_at 0) }
     ensures learnt { Learnt index.old index.new }
     ensures among { Reaching (current index.old) start result }
 {
@@ -49,6 +51,7 @@ fn reaching(index: &mut [u64], start: u64) -> u64
 }
 
 // Whether a number is in a set of small numbers. In words of 32 bits, as the sets are, four tests are one step of the machine.
+// Kept beside `sets::contains`: with that one, of 64 bits, `spread` takes a third longer.
 fn contains(a: u32, i: u32) -> bool
     requires { i < 32 }
     ensures { result ≡ has a i }
@@ -56,31 +59,21 @@ fn contains(a: u32, i: u32) -> bool
     (a >> i) % 2 == 1
 }
 
-// A set with or without the principal p, with no jump.
-fn placed(here: bool, old: u32, p: u64) -> u32
-    requires { p < principal_limit }
-    ensures { result ≡ placed here old p }
-{
-    let bit = sets::single(p) as u32;
-    let both = old | bit;
-    if here {
-        return both;
-    }
-    both - bit
-}
-
 // Puts the principal p into the set of role i or takes it out.
+#[tactic(auto, using(tracked::proofs::IndexLaws::placed_fits))]
 fn place(atoms: &mut [u32], i: usize, here: bool, p: u64)
     requires { (i < length atoms.old) × (p < principal_limit) }
     ensures { atoms.new ≡ set atoms.old i (placed here (get_or atoms.old i 0) p) }
 {
-    atoms[i] = placed(here, atoms[i], p);
+    atoms[i] = index::placed(here, u64::from(atoms[i]), p) as u32;
 }
 
 // Puts the principal p into the sets of the roles that are among some, and takes it out of all others. Four at a time, also
 // past the last role, where no set is: the compiler makes one step of the four, and 64 roles take 15 ns and not 75.
-fn spread(atoms: &mut [u32], count: usize, among: u64, p: u64)
-    requires { (length atoms.old ≡ atom_words) × (count ≤ role_limit) × (p < principal_limit) }
+// Kept as a `while`: of a `for` by `step_by(4)` the compiler makes steps of four and no longer of eight, and updates of 16 members
+// take a tenth longer.
+fn spread(atoms: &mut [u32; atoms::WORDS], count: usize, among: u64, p: u64)
+    requires { (count ≤ role_limit) × (p < principal_limit) }
     ensures { Spread count among p atoms.old atoms.new }
 {
     let mut rest = among;
@@ -91,17 +84,23 @@ fn spread(atoms: &mut [u32], count: usize, among: u64, p: u64)
         place(atoms, i + 1, contains(four, 1), p);
         place(atoms, i + 2, contains(four, 2), p);
         place(atoms, i + 3, contains(four, 3), p);
-        rest = rest / 16;
+        rest /= 16;
         i += 4;
     }
 }
 
 // Brings the places of some principals up to date, one principal at a time.
-pub fn settle_some(policy: &[u8], atoms: &mut [u32], index: &mut [u64], some: u64)
+#[tactic(auto, using(crate::proofs::SettleLaws::settlings))]
+pub fn settle_some(
+    policy: &[u8],
+    atoms: &mut [u32; atoms::WORDS],
+    index: &mut [u64; index::WORDS],
+    some: u64,
+)
     requires { Settling policy.now atoms.old index.old some }
     ensures { Settled policy.now atoms.new index.new }
 {
-    let count = bytes::wide(rows::roles_of(policy)) as usize;
+    let count = usize::from(rows::roles_of(policy));
     let mut rest = some;
     while 0 < rest {
         let p = sets::lowest(rest);
@@ -112,7 +111,8 @@ pub fn settle_some(policy: &[u8], atoms: &mut [u32], index: &mut [u64], some: u6
 }
 
 // Brings all places up to date.
-pub fn settle_all(policy: &[u8], atoms: &mut [u32], index: &mut [u64])
+#[tactic(auto, using(crate::proofs::SettleLaws::settlings))]
+pub fn settle_all(policy: &[u8], atoms: &mut [u32; atoms::WORDS], index: &mut [u64; index::WORDS])
     requires { Tracked policy.now atoms.old index.old }
     ensures { Settled policy.now atoms.new index.new }
 {
@@ -121,7 +121,8 @@ pub fn settle_all(policy: &[u8], atoms: &mut [u32], index: &mut [u64])
 }
 
 // The same. Mostly nothing was touched.
-pub fn settle(policy: &[u8], atoms: &mut [u32], index: &mut [u64])
+#[tactic(auto, using(crate::proofs::SettleLaws::settlings))]
+pub fn settle(policy: &[u8], atoms: &mut [u32; atoms::WORDS], index: &mut [u64; index::WORDS])
     requires { Tracked policy.now atoms.old index.old }
     ensures { Settled policy.now atoms.new index.new }
 {

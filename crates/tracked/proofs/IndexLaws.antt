@@ -7,8 +7,9 @@ use mathlib.Core.List.{List}
 use mathlib.Core.Bool.{Bool, true, false}
 use native.Mathlib.Omega.{arith}
 use native.Mathlib.Decide.{ℕ_discrete}
+use native.Mathlib.Nat.{lt_of_le_of_lt}
 use mir.Val.{Fits}
-use mir.Syntax.{w64}
+use mir.Syntax.{w32, w64}
 use lib.Bits.{bit_or}
 use lib.Count.{count_trailing_zeros}
 use lib.ListN.{length, get_or, set, replicate, length-set, length-replicate, get_or-replicate}
@@ -19,7 +20,7 @@ use Rattle.model.specs.Policy.{roles, principals, members, takes, HasRow, Accept
 use Rattle.model.proofs.Accepted.{accepted_facts}
 use Rattle.model.proofs.Below.{last_or}
 use Rattle.model.proofs.Rows.{accepted_row}
-use Rattle.model.proofs.Sets.{has_zero, not_in, in_not, in_none, has_or_l, has_or_r, or_has, same_sets, has_below, power_is, power_in, has_with_same, has_with, with_has, has_without, without_has}
+use Rattle.model.proofs.Sets.{has_zero, not_in, in_not, in_none, has_or_l, has_or_r, or_has, same_sets, has_below, power_is, power_in, has_with_same, has_with, with_has, with_below, has_without, without_has, without_le}
 use Rattle.model.proofs.Truth.{true_or_false}
 use Rattle.shared.specs.Words.{single}
 use Rattle.shared.proofs.SetLaws.{shifted, single_is, held_power, next_without, fewer}
@@ -38,9 +39,12 @@ entering_start from set i w =
     record { long = refl; in_rest = λ j h. h; entered = λ j h n. in_not set j h n; waiting = λ j h. refl; others = λ k n. refl }
 
 module _ (from all rest i : ℕ) (w u : List ℕ) (inside : SetInside from all) (long : length w ≡ index_words) (h : Entering from all rest i w u) where
-  pub entering_inside : (j : ℕ) → j < 64 → has rest j ≡ true → from + j < length u
+  pub entering_inside : (j : ℕ) → j < 64 → has rest j ≡ true → from + j < index_words
   unfolding SetInside
-  entering_inside j b m = omega (arith, h.long, long, inside j b (h.in_rest j m))
+  entering_inside j b m = omega (arith, inside j b (h.in_rest j m))
+
+  entering_there : (j : ℕ) → j < 64 → has rest j ≡ true → from + j < length u
+  entering_there j b m = omega (arith, h.long, long, entering_inside j b m)
 
   pub entering_fits : (j : ℕ) → j < 64 → has rest j ≡ true → Fits w64 (from + j)
   unfolding SetInside
@@ -66,7 +70,7 @@ module _ (from all rest i : ℕ) (w u : List ℕ) (inside : SetInside from all) 
       out l p = without_has rest j l (rw is at p)
 
       go : (l : ℕ) → has all l ≡ true → has next l ≡ false → Dec (l ≡ j) → get_or (set u (from + j) (with (get_or u (from + j) 0) i)) (from + l) 0 ≡ with (get_or w (from + l) 0) i
-      go l p n (yes e) = rw e (get_or-set_same u (from + j) _ 0 (entering_inside j b m) ∙ ap (λ (x : ℕ). with x i) (h.waiting j m))
+      go l p n (yes e) = rw e (get_or-set_same u (from + j) _ 0 (entering_there j b m) ∙ ap (λ (x : ℕ). with x i) (h.waiting j m))
       go l p n (no d) =
           get_or-set_other u (from + j) (from + l) _ 0 (λ e. d (omega arith))
           ∙ h.entered l p (not_in rest l (λ q. in_not next l (rw is (has_without rest j l q d)) n))
@@ -169,9 +173,9 @@ module _ (s : List ℕ) (ok : Accepted s) (c i : ℕ) (e : c ≡ roles s) (l : i
   unfolding SetInside
   takes_inside v q j b m = omega (arith, taken_small j (rw q at m))
 
-  pub members_inside : (v : ℕ) → v ≡ members s i → SetInside holders_at v
+  pub members_inside : (w v : ℕ) → w ≡ v → v ≡ members s i → SetInside holders_at w
   unfolding SetInside
-  members_inside v q j b m = omega (arith, member_small j (rw q at m))
+  members_inside w v e q j b m = omega (arith, member_small j (rw (e, q) at m))
 
   pub role_small : i < role_limit
   role_small = omega (arith, (accepted_facts s ok).roles_fit)
@@ -201,8 +205,8 @@ module _ (s w : List ℕ) (ok : Accepted s) where
     pub loaded_long : length w ≡ index_words
     loaded_long = h.indexed.long
 
-    pub loaded_more : (u v : List ℕ) (c t m : ℕ) → c ≡ roles s → n < c → t ≡ takes s n → m ≡ members s n → Entered 0 t n w u → Entered holders_at m n u v → Loaded s (n + 1) v
-    loaded_more u v c t m ec l et em a b = record {
+    pub loaded_more : (u v : List ℕ) (c t m x : ℕ) → c ≡ roles s → n < c → t ≡ takes s n → m ≡ x → x ≡ members s n → Entered 0 t n w u → Entered holders_at m n u v → Loaded s (n + 1) v
+    loaded_more u v c t m x ec l et ex em a b = record {
       indexed = record {
         long = g.long ∙ f.long ∙ h.indexed.long;
         takers = transposed_kept (takes s) 0 role_limit (n + 1) u v (transposed_more (takes s) 0 role_limit n w u h.indexed.takers f) (takes s) (λ i j k. refl)
@@ -218,7 +222,7 @@ module _ (s w : List ℕ) (ok : Accepted s) where
         f = rw et at a
 
         g : Entered holders_at (members s n) n u v
-        g = rw em at b
+        g = rw (ex, em) at b
 
         behind : (k : ℕ) → moved_at ≤ k → get_or v k 0 ≡ get_or w k 0
         behind k b = g.others k (λ y p q. omega (arith, member_small s ok c n ec l y p)) ∙ f.others k (λ y p q. omega (arith, taken_small s ok c n ec l y p))
@@ -249,6 +253,12 @@ module _ (old p : ℕ) where
 
   pub power_below : 2 ^ p ≤ bit_or old (2 ^ p)
   power_below = held_power (with old p) p (has_with_same old p)
+
+-- a principal's number is one of 32, so a set of principals stays one
+pub placed_fits : (m x v : ℕ) (present : Bool) → m < 2 ^ 32 → x < principal_limit → v ≡ placed present m x → Fits w32 v
+unfolding placed
+placed_fits m x v true below l e = record { fits = rw e (with_below 32 m x below l) }
+placed_fits m x v false below l e = record { fits = rw e (lt_of_le_of_lt (without_le m x) below) }
 
 -- the same in a word of 64 bits
 module _ (here : Bool) (old p : ℕ) (l : p < role_limit) where

@@ -175,9 +175,10 @@ module _ (atoms w u : List ℕ) (x y moved rewired all : ℕ) (ex : x ≡ get_or
   not_left : (p : ℕ) → has (bit_or moved all) p ≡ false → has moved p ≡ false
   not_left p n = not_in moved p (λ m. in_not (bit_or moved all) p (has_or_l moved all p m) n)
 
-  pub sifted : Sifted atoms w u (bit_or moved all)
+  -- all, wider as b
+  pub sifted : (b : ℕ) → b ≡ all → Sifted atoms w u (bit_or moved b)
   unfolding Few
-  sifted = record {
+  sifted b e = rw e (record {
     long = h.long;
     same = h.same;
     untouched = h.untouched;
@@ -186,6 +187,6 @@ module _ (atoms w u : List ℕ) (x y moved rewired all : ℕ) (ex : x ≡ get_or
     few = λ p m. ⊎_elim (λ b. few p (rw ex at (f.inside p b))) (λ b. has_below 32 all p small b) (or_has moved all p m);
     holders = λ p l n. unchanged w (holders_at + p) p holders_at x moved f refl (touched_by (holders_at + p) moved_at p (mark_member p l) w ∙ rw ex refl) (not_left p n);
     takers = λ p k l m n. taker_same k l (not_in rewired k (λ b. in_not (bit_or moved all) p (has_or_r moved all p (a.added k p b (has_zero k) m)) n));
-  }
+  })
 
 pub ruleset siftings = (holders_inside, takers_inside, sifted)

@@ -11,8 +11,9 @@ ghost use Rattle.shared.specs.Words.{single, United};
 ghost use Rattle.tracked.specs.Live.{atom_words};
 ghost use Rattle.tracked.specs.Index.{holders_at, moved_at, known_at, rewired_at, index_words, current, Mark, SetInside, Entered, Loaded, Few, placed, turns, Marked, Turned, Changed, Cleared, Sifted, Reaching, Known, Learnt};
 
+use super::atoms;
 use policy::rows;
-use shared::{bytes, sets};
+use shared::sets;
 
 // How many words there are; where those of the principals begin, where the principals whose words were touched stand, of which
 // roles it is known from where they are reached, where the words of that begin, where the roles whose words were touched stand,
@@ -32,8 +33,8 @@ const REWIRED: usize = 162;
 const BEFORE: usize = 163;
 
 // Puts i into each word, from `from` on, whose number is in a set.
-fn enter(index: &mut [u64], from: usize, set: u64, i: u64)
-    requires { (length index.old ≡ index_words) × (SetInside from set) × (i < role_limit) }
+fn enter(index: &mut [u64; WORDS], from: usize, set: u64, i: u64)
+    requires { (SetInside from set) × (i < role_limit) }
     ensures { Entered from set i index.old index.new }
 {
     let mut rest = set;
@@ -45,22 +46,22 @@ fn enter(index: &mut [u64], from: usize, set: u64, i: u64)
 }
 
 // The words of a policy, in words that are 0. None was touched.
-pub fn load(policy: &[u8], index: &mut [u64])
+#[tactic(auto, using(crate::proofs::IndexLaws::loadings))]
+pub fn load(policy: &[u8], index: &mut [u64; WORDS])
     requires { (Accepted policy.now) × (index.old ≡ replicate index_words 0) }
     ensures { Loaded policy.now (roles policy.now) index.new }
 {
-    let count = bytes::wide(rows::roles_of(policy)) as usize;
-    let mut i = 0;
-    while i < count {
+    let count = usize::from(rows::roles_of(policy));
+    for i in 0..count {
         let taken = rows::takes_of(policy, i);
-        let members = rows::members_of(policy, i) as u64;
+        let members = u64::from(rows::members_of(policy, i));
         enter(index, 0, taken, i as u64);
         enter(index, HOLDERS, members, i as u64);
-        i += 1;
     }
 }
 
 // A set with or without a number, with no jump.
+#[tactic(auto, using(crate::proofs::IndexLaws::placings))]
 pub fn placed(present: bool, set: u64, i: u64) -> u64
     requires { i < role_limit }
     ensures { result ≡ placed present set i }
@@ -74,8 +75,9 @@ pub fn placed(present: bool, set: u64, i: u64) -> u64
 }
 
 // Keeps word k as it was when the sets were last right, where nothing touched it since.
-fn keep(index: &mut [u64], k: usize, mark: usize, x: u64)
-    requires { (length index.old ≡ index_words) × (k < moved_at) × (mark < index_words) × (x < role_limit) × Mark k mark x }
+#[tactic(auto, using(crate::proofs::KeepLaws::keepings))]
+fn keep(index: &mut [u64; WORDS], k: usize, mark: usize, x: u64)
+    requires { (k < moved_at) × (mark < index_words) × (x < role_limit) × Mark k mark x }
     ensures { Marked k index.old index.new }
 {
     if sets::contains(index[mark], x) {
@@ -86,8 +88,9 @@ fn keep(index: &mut [u64], k: usize, mark: usize, x: u64)
 }
 
 // Puts i into word k or takes it out: whether that changed the word.
-fn turn(index: &mut [u64], k: usize, i: u64, present: bool, mark: usize, x: u64) -> bool
-    requires { (length index.old ≡ index_words) × (k < moved_at) × (i < role_limit) × (mark < index_words) × (x < role_limit) × Mark k mark x }
+#[tactic(auto, using(crate::proofs::KeepLaws::turnings))]
+fn turn(index: &mut [u64; WORDS], k: usize, i: u64, present: bool, mark: usize, x: u64) -> bool
+    requires { (k < moved_at) × (i < role_limit) × (mark < index_words) × (x < role_limit) × Mark k mark x }
     ensures turned { Turned k i present index.old index.new }
     ensures told { result ≡ turns present (get_or index.old k 0) i }
 {
@@ -102,8 +105,10 @@ fn turn(index: &mut [u64], k: usize, i: u64, present: bool, mark: usize, x: u64)
 }
 
 // Role `role` has the principal x as a member, or no longer: whether that changes anything.
-pub fn note_member(index: &mut [u64], role: usize, x: u64, present: bool) -> bool
-    requires { (length index.old ≡ index_words) × (role < role_limit) × (x < principal_limit) }
+// Kept beside `note_taken`: what the two have in common is `turn`.
+#[tactic(auto, using(crate::proofs::KeepLaws::mark_member))]
+pub fn note_member(index: &mut [u64; WORDS], role: usize, x: u64, present: bool) -> bool
+    requires { (role < role_limit) × (x < principal_limit) }
     ensures turned { Turned (holders_at + x) role present index.old index.new }
     ensures told { result ≡ turns present (get_or index.old (holders_at + x) 0) role }
 {
@@ -118,8 +123,9 @@ pub fn note_member(index: &mut [u64], role: usize, x: u64, present: bool) -> boo
 }
 
 // Role `role` takes in role x, or no longer: whether that changes anything.
-pub fn note_taken(index: &mut [u64], role: usize, x: u64, present: bool) -> bool
-    requires { (length index.old ≡ index_words) × (role < role_limit) × (x < role_limit) }
+#[tactic(auto, using(crate::proofs::KeepLaws::mark_taken))]
+pub fn note_taken(index: &mut [u64; WORDS], role: usize, x: u64, present: bool) -> bool
+    requires { (role < role_limit) × (x < role_limit) }
     ensures turned { Turned x role present index.old index.new }
     ensures told { result ≡ turns present (get_or index.old x 0) role }
 {
@@ -127,16 +133,16 @@ pub fn note_taken(index: &mut [u64], role: usize, x: u64, present: bool) -> bool
 }
 
 // What was touched since the sets were last right: 0 where nothing was.
-pub fn pending(index: &[u64]) -> u64
-    requires { length index.now ≡ index_words }
+pub fn pending(index: &[u64; WORDS]) -> u64
     ensures { result ≡ bit_or (get_or index.now moved_at 0) (get_or index.now rewired_at 0) }
 {
     index[MOVED] | index[REWIRED]
 }
 
 // Those of a set whose word, from `from` on, is another than it was.
-fn changed(index: &[u64], from: usize, set: u64) -> u64
-    requires { (length index.now ≡ index_words) × (SetInside from set) }
+#[tactic(auto, using(crate::proofs::SiftLaws::comparings))]
+fn changed(index: &[u64; WORDS], from: usize, set: u64) -> u64
+    requires { (SetInside from set) }
     ensures { Changed from set index.now result }
 {
     let mut found = 0;
@@ -151,8 +157,8 @@ fn changed(index: &[u64], from: usize, set: u64) -> u64
 }
 
 // All that are in the sets of some roles.
-fn union_of(atoms: &[u32], some: u64) -> u32
-    requires { length atoms.now ≡ atom_words }
+#[tactic(auto, using(shared::proofs::UnionLaws::unions))]
+fn union_of(atoms: &[u32; atoms::WORDS], some: u64) -> u32
     ensures { United (current atoms.now) some 0 0 result }
 {
     let mut found = 0;
@@ -166,8 +172,7 @@ fn union_of(atoms: &[u32], some: u64) -> u32
 }
 
 // Nothing is touched any more; and where the words of some roles are others than they were, nothing is known.
-fn clear(index: &mut [u64], rewired: u64)
-    requires { length index.old ≡ index_words }
+fn clear(index: &mut [u64; WORDS], rewired: u64)
     ensures { Cleared rewired index.old index.new }
 {
     index[MOVED] = 0;
@@ -180,35 +185,35 @@ fn clear(index: &mut [u64], rewired: u64)
 
 // The principals whose places may be out of date: those whose own word is another than it was, and all that are in the set of a
 // role whose word is. Nobody else's places can have changed. The caller puts these right, so nothing counts as touched any more.
-pub fn sift(atoms: &[u32], index: &mut [u64]) -> u64
-    requires { (length atoms.now ≡ atom_words) × (length index.old ≡ index_words) × Few (get_or index.old moved_at 0) }
+#[tactic(auto, using(crate::proofs::SiftLaws::siftings))]
+pub fn sift(atoms: &[u32; atoms::WORDS], index: &mut [u64; WORDS]) -> u64
+    requires { Few (get_or index.old moved_at 0) }
     ensures { Sifted atoms.now index.old index.new result }
 {
     let moved = changed(index, HOLDERS, index[MOVED]);
     let rewired = changed(index, 0, index[REWIRED]);
     clear(index, rewired);
-    moved | union_of(atoms, rewired) as u64
+    moved | u64::from(union_of(atoms, rewired))
 }
 
 // The roles that have a principal as a member.
-pub fn holders(index: &[u64], p: u64) -> u64
-    requires { (length index.now ≡ index_words) × (p < principal_limit) }
+pub fn holders(index: &[u64; WORDS], p: u64) -> u64
+    requires { (p < principal_limit) }
     ensures { result ≡ get_or index.now (holders_at + p) 0 }
 {
     index[HOLDERS + (p as usize)]
 }
 
 // The roles of which it is known from where they are reached.
-pub fn known(index: &[u64]) -> u64
-    requires { length index.now ≡ index_words }
+pub fn known(index: &[u64; WORDS]) -> u64
     ensures { result ≡ get_or index.now known_at 0 }
 {
     index[KNOWN]
 }
 
 // Notes from where role j is reached.
-pub fn note_above(index: &mut [u64], j: u64, above: u64)
-    requires { (length index.old ≡ index_words) × (j < role_limit) × (Known (current index.old) index.old (get_or index.old known_at 0)) × Reaching (current index.old) (single j) above }
+pub fn note_above(index: &mut [u64; WORDS], j: u64, above: u64)
+    requires { (j < role_limit) × (Known (current index.old) index.old (get_or index.old known_at 0)) × Reaching (current index.old) (single j) above }
     ensures { Learnt index.old index.new }
 {
     index[ABOVE + (j as usize)] = above;
@@ -216,8 +221,8 @@ pub fn note_above(index: &mut [u64], j: u64, above: u64)
 }
 
 // The roles from which one of some is reached that are all known.
-pub fn above(index: &[u64], start: u64) -> u64
-    requires { (length index.now ≡ index_words) × Known (current index.now) index.now start }
+pub fn above(index: &[u64; WORDS], start: u64) -> u64
+    requires { Known (current index.now) index.now start }
     ensures { Reaching (current index.now) start result }
 {
     let mut seen = 0;

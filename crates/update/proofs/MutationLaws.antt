@@ -1,13 +1,13 @@
 -- A law for each return of mutations.rt, and the loop: what is left to make of the policy as it is now is what the whole update makes of the first.
+use Rattle.std.proofs.Common.{Result, Ok, Err}
 use mathlib.Core.Path.{◌≡◌, refl, sym, ap, ◌∙◌}
-use Prim.Native.Nat.{ℕ, ◌+◌, ◌-◌, ◌^◌, ◌<◌, ◌≤◌}
+use Prim.Native.Nat.{ℕ, ◌+◌, ◌-◌, ◌*◌, ◌<◌, ◌≤◌}
 use mathlib.Core.List.{List, ◌∷◌, Memᴰ}
 use mathlib.Core.Bool.{Bool, true, false, not, true≢false}
 use native.Mathlib.Omega.{arith}
-use native.Mathlib.Nat.{lt_of_le_of_lt}
 use native.Mathlib.Decide.{ℕ_discrete}
 use mir.Val.{Fits}
-use mir.Syntax.{w8, w32, w64}
+use mir.Syntax.{w8}
 use lib.Dec.{eqb}
 use lib.ListN.{length, get_or}
 use borrow.Author.Tests.{eqb-true}
@@ -23,22 +23,21 @@ use Rattle.model.specs.Run.{mutate_all}
 use Rattle.model.proofs.Accepted.{Facts, accepted_facts}
 use Rattle.model.proofs.Bytes.{put_word}
 use Rattle.model.proofs.Rows.{accepted_row}
-use Rattle.model.proofs.Sets.{has_with_same, with_below, without_le, same_sets}
+use Rattle.model.proofs.Sets.{has_with_same, same_sets}
 use Rattle.model.proofs.Fixed.{fixed_refl, fixed_trans}
 use Rattle.model.proofs.Mutation.{mutate_fixed, mutate_accepted, allowed_fixed}
 use Rattle.model.proofs.FlowParts.{Mutates, mutates_role, mutates_operand}
 use Rattle.model.proofs.Standing.{Cons, MutationParts, same_value, many_none, many_more, mutation_parts}
 use Rattle.program.specs.declared.codes.Kind.{Kind}
 use Rattle.program.specs.declared.codes.Kind.TheVariants.{AddMember, DeleteMember, AddTaken, DeleteTaken}
-use Rattle.program.specs.declared.codes.KindOf.{KindOf}
-use Rattle.program.specs.declared.codes.KindOf.TheVariants as kind
 use Rattle.program.specs.Codes.{kind_of, model_kind}
 use Rattle.gathered.proofs.PositionLaws.{mutation_known, mutation_kind}
 use Rattle.tracked.specs.Index.{holders_at, index_words, Mirrored, placed, turns, Kept, Turned, Noted, Made, member_kind, taken_kind}
 use Rattle.update.specs.Mutations.{Granted, MutableOne, Mutable, MutatedOne, Mutated}
-use Rattle.tracked.proofs.IndexLaws.{placed_same, placed_other}
+use Rattle.tracked.proofs.IndexLaws.{placed_same, placed_other, placed_fits}
 use Rattle.tracked.proofs.KeepLaws.{kept_same, kept_trans}
 use Rattle.tracked.proofs.TrackedLaws.{mirrored_mutated}
+use Rattle.program.specs.declared.codes.UnknownCode.{UnknownCode}
 
 -- what a row is asked for, by the kind of mutation
 module _ (s w : List ℕ) (r x : ℕ) (h : Mirrored s w) where
@@ -64,12 +63,6 @@ module _ (s w : List ℕ) (r x : ℕ) (h : Mirrored s w) where
   pub taken_below : (present : Bool) → x < operand_count s (taken_kind present) → x < role_limit
   taken_below true l = omega (arith, facts.roles_fit)
   taken_below false l = omega (arith, facts.roles_fit)
-
--- a principal's number is one of 32, so what is written fits
-pub placed_fits : (m x v : ℕ) (present : Bool) → m < 2 ^ 32 → x < principal_limit → v ≡ placed present m x → Fits w32 v
-unfolding placed
-placed_fits m x v true below l e = record { fits = rw e (with_below 32 m x below l) }
-placed_fits m x v false below l e = record { fits = rw e (lt_of_le_of_lt (without_le m x) below) }
 
 -- where a word does not turn, neither does the set that it has the other way round
 turns_alike : (present : Bool) (a b i j : ℕ) → false ≡ turns present a i → has a i ≡ has b j → placed present b j ≡ b
@@ -117,8 +110,9 @@ module _ (s w u : List ℕ) (r x : ℕ) where
   taken_noted false g = g
 
   module _ (present : Bool) where
-    pub member_written : (t : List ℕ) (m v : ℕ) → m ≡ members s r → v ≡ placed present m x → t ≡ put_members s r v → Turned (holders_at + x) r present w u → Made (member_kind present) r x s w t u
-    member_written t m v e f h g = written members put_members (member_kind present) s w u r x present (members_put present) (member_noted present g) t m v e f h
+    -- the members m, wider as n
+    pub member_written : (t : List ℕ) (m n v : ℕ) → n ≡ m → m ≡ members s r → v ≡ placed present n x → t ≡ put_members s r v → Turned (holders_at + x) r present w u → Made (member_kind present) r x s w t u
+    member_written t m n v z e f h g = written members put_members (member_kind present) s w u r x present (members_put present) (member_noted present g) t n v (z ∙ e) f h
 
     pub taken_written : (t : List ℕ) (m v : ℕ) → m ≡ takes s r → v ≡ placed present m x → t ≡ put_takes s r v → Turned x r present w u → Made (taken_kind present) r x s w t u
     taken_written t m v e f h g = written takes put_takes (taken_kind present) s w u r x present (takes_put present) (taken_noted present g) t m v e f h
@@ -177,11 +171,11 @@ noted_kept addTaken r x w u h = h.kept
 noted_kept deleteTaken r x w u h = h.kept
 
 -- one mutation that was read: o is what its kind's byte stands for
-module _ (p s : List ℕ) (at : ℕ) (h : MutableOne p s at) (o : KindOf) (d : o ≡ kind_of (byte p at)) where
+module _ (p s : List ℕ) (at : ℕ) (h : MutableOne p s at) (o : (Result Kind UnknownCode)) (d : o ≡ kind_of (byte p at)) where
   parts : MutationParts p (roles s) at h.mutation h.end
   parts = mutation_parts p (principals s) (roles s) at h.is_read
 
-  pub one_unknown : (w t u : List ℕ) → o ≡ kind.No → MutatedOne p s at w t u
+  pub one_unknown : (w t u : List ℕ) → o ≡ (Err (record {})) → MutatedOne p s at w t u
   one_unknown w t u n = absurd (mutation_known p (principals s) (roles s) at h.is_read o d n)
 
   -- its role and its operand, wider as r and x
@@ -192,7 +186,7 @@ module _ (p s : List ℕ) (at : ℕ) (h : MutableOne p s at) (o : KindOf) (d : o
     pub one_role : r < roles s
     one_role = rw role_is h.granted.role_below
 
-    module _ (k : Kind) (j : o ≡ kind.Is k) (x : ℕ) (f : x ≡ byte p (at + 2)) where
+    module _ (k : Kind) (j : o ≡ Ok k) (x : ℕ) (f : x ≡ byte p (at + 2)) where
       operand_is : x ≡ h.mutation.operand
       operand_is = f ∙ sym parts.operand_byte
 
@@ -238,17 +232,18 @@ tail_in : {m n : Mutation} {xs ms : List Mutation} → xs ≡ m ∷ ms → Mem�
 tail_in e i = rw e (Memᴰ.tail i)
 
 module _ (p s : List ℕ) (at : ℕ) (w : List ℕ) where
-  pub mutating_start : (count : ℕ) → Mirrored s w → Mutable p s at → count ≡ byte p (at + 1) → Mutating p s at w s w count (at + 2) 0
+  pub mutating_start : (count : ℕ) → Mirrored s w → Mutable p s at → count ≡ byte p (at + 1) → Mutating p s at w s w count (at + 2 + 3 * 0) 0
   unfolding Mutable
   mutating_start count ok h e =
       let all_left : count - 0 ≡ byte p (at + 1) = omega arith in
+      let front : at + 2 + 3 * 0 ≡ at + 2 = omega arith in
       record {
         all = h.mutations;
         end = h.end;
         all_read = h.is_read;
         rest = h.mutations;
         stop = h.end;
-        rest_read = rw all_left h.is_read;
+        rest_read = rw (all_left, front) h.is_read;
         granted = h.granted;
         mirrored = ok;
         kept = kept_same w;
@@ -256,46 +251,50 @@ module _ (p s : List ℕ) (at : ℕ) (w : List ℕ) where
         same_end = refl;
       }
 
-  module _ (t u : List ℕ) (count next i : ℕ) (inv : Mutating p s at w t u count next i) where
+  module _ (t u : List ℕ) (count i : ℕ) (inv : Mutating p s at w t u count (at + 2 + 3 * i) i) where
+    abbrev next : ℕ
+    next = at + 2 + 3 * i
+
     pub mutating_mirrored : Mirrored t u
     mutating_mirrored = inv.mirrored
 
-    module _ (some : i < count) where
+    -- the next one, whose number is wider as x
+    module _ (some : i < count) (x : ℕ) (e : x ≡ i) where
       first : Cons (read_mutation p (principals s) (roles s)) (count - i) next inv.rest inv.stop
       first = many_more (read_mutation p (principals s) (roles s)) (count - i) next inv.rest_read (omega arith)
 
       first_parts : MutationParts p (roles s) next first.head first.mid
       first_parts = mutation_parts p (principals s) (roles s) next first.head_read
 
-      pub mutating_inside : next + 3 ≤ length p
-      mutating_inside = first_parts.inside
+      pub mutating_inside : at + 2 + 3 * x + 3 ≤ length p
+      mutating_inside = rw e first_parts.inside
 
-      pub mutating_fits : length p < 2 ^ 64 → Fits w64 (next + 3)
-      mutating_fits l = record { fits = omega (arith, mutating_inside) }
-
-      pub mutating_one : MutableOne p t next
+      pub mutating_one : MutableOne p t (at + 2 + 3 * x)
       mutating_one =
           let f = inv.same_fixed in
-          record {
+          rw e
+          (record {
             mutation = first.head;
             end = first.mid;
             is_read = rw (← f.same_principals, ← f.same_roles) first.head_read;
             granted = granted_stays f (inv.granted first.head (head_in first.is));
-          }
+          })
 
-      pub mutating_more : (t₁ u₁ : List ℕ) → MutatedOne p t next u t₁ u₁ → Mutating p s at w t₁ u₁ count (next + 3) (i + 1)
+      pub mutating_more : (t₁ u₁ : List ℕ) → MutatedOne p t (at + 2 + 3 * x) u t₁ u₁ → Mutating p s at w t₁ u₁ count (at + 2 + 3 * (i + 1)) (i + 1)
       unfolding mutate_all
-      mutating_more t₁ u₁ h =
+      mutating_more t₁ u₁ g =
           let f = inv.same_fixed in
+          let h : MutatedOne p t next u t₁ u₁ = rw e at g in
           let here = h.made first.head first.mid (rw (← f.same_principals, ← f.same_roles) first.head_read) in
           let k : count - i - 1 ≡ count - (i + 1) = omega arith in
+          let there : at + 2 + 3 * (i + 1) ≡ first.mid = omega (arith, first_parts.ends) in
           record {
             all = inv.all;
             end = inv.end;
             all_read = inv.all_read;
             rest = first.tail;
             stop = inv.stop;
-            rest_read = rw (← first_parts.ends, ← k) first.tail_read;
+            rest_read = rw (there, ← k) first.tail_read;
             granted = λ m i. inv.granted m (tail_in first.is i);
             mirrored = h.mirrored;
             kept = kept_trans w u u₁ inv.kept h.kept;
@@ -314,4 +313,4 @@ module _ (p s : List ℕ) (at : ℕ) (w : List ℕ) where
           made = λ ms end h. rw (same_value (sym inv.all_read ∙ h)).0 (rw v.0 at inv.same_end);
         }
 
-pub ruleset mutatings = (mutating_start, mutating_mirrored, mutating_inside, mutating_fits, mutating_one, mutating_more, mutating_done)
+pub ruleset mutatings = (mutating_start, mutating_mirrored, mutating_inside, mutating_one, mutating_more, mutating_done)

@@ -15,8 +15,9 @@ use shared::sets;
 use tracked::{atoms, index};
 
 // What is tracked of a policy when a run begins, in words of which those of the index are 0.
-pub fn track(policy: &[u8], atoms: &mut [u32], index: &mut [u64])
-    requires { (Accepted policy.now) × (length atoms.old ≡ atom_words) × (index.old ≡ replicate index_words 0) }
+#[tactic(auto, using(tracked::proofs::TrackedLaws::tracked_loaded))]
+pub fn track(policy: &[u8], atoms: &mut [u32; atoms::WORDS], index: &mut [u64; index::WORDS])
+    requires { (Accepted policy.now) × (index.old ≡ replicate index_words 0) }
     ensures { Tracked policy.now atoms.new index.new }
 {
     atoms::load(policy, atoms);
@@ -26,8 +27,8 @@ pub fn track(policy: &[u8], atoms: &mut [u32], index: &mut [u64])
 // Whether the sets are asked for and may be out of date: something is listed, and something was touched. Mostly not, and then an
 // update passes the policy on to nothing but its mutations: with this test behind the call that settles, updates of one mutation
 // took a tenth to a seventh longer.
-fn is_awaited(count: u8, index: &[u64]) -> bool
-    requires { length index.now ≡ index_words }
+#[tactic(auto, using(crate::proofs::ChangeLaws::awaits))]
+fn is_awaited(count: u8, index: &[u64; index::WORDS]) -> bool
     ensures { result ≡ is_awaited count index.now }
 {
     if count == 0 {
@@ -43,8 +44,8 @@ fn judge(
     listing: usize,
     count: u8,
     policy: &[u8],
-    atoms: &mut [u32],
-    index: &mut [u64],
+    atoms: &mut [u32; atoms::WORDS],
+    index: &mut [u64; index::WORDS],
     some: u64,
 ) -> bool
     requires { (Settling policy.now atoms.old index.old some) × (count ≤ list_limit) × (listing + 2 * count ≤ length program.now) }
@@ -58,13 +59,14 @@ fn judge(
 
 // Whether a listed query broke by mutations that were made in the policy since the sets were up to date; then they are again.
 // Where nobody's places changed by them no query breaks.
+#[tactic(auto, using(crate::proofs::ChangeLaws::judgings))]
 fn settle_judged(
     program: &[u8],
     listing: usize,
     count: u8,
     policy: &[u8],
-    atoms: &mut [u32],
-    index: &mut [u64],
+    atoms: &mut [u32; atoms::WORDS],
+    index: &mut [u64; index::WORDS],
 ) -> bool
     requires { (Tracked policy.now atoms.old index.old) × (count ≤ list_limit) × (listing + 2 * count ≤ length program.now) }
     ensures { Judged program.now listing count policy.now atoms.old atoms.new index.new result }
@@ -85,8 +87,8 @@ pub fn carry_out(
     listing: usize,
     count: u8,
     policy: &mut [u8],
-    atoms: &mut [u32],
-    index: &mut [u64],
+    atoms: &mut [u32; atoms::WORDS],
+    index: &mut [u64; index::WORDS],
 ) -> bool
     requires { (Tracked policy.old atoms.old index.old) × (Mutable program.now policy.old at) × Listing program.now policy.old count listing }
     ensures { CarriedOut program.now policy.old at listing count policy.new atoms.new index.new result }

@@ -6,7 +6,7 @@ ghost use Rattle.tracked.specs.Live.{atom_words};
 ghost use Rattle.update.specs.Listed.{HeldAt};
 
 use gathered::positions;
-use shared::{bytes, sets};
+use shared::sets;
 use tracked::atoms;
 
 // The bits with that of query i, if it holds.
@@ -22,17 +22,16 @@ fn noted(bits: u64, i: u64, holds: bool) -> u64
 
 // The queries that hold, of `count` that stand from a position on. That their bytes are there is known from the program's
 // check, so no position is tested again: 16 queries take 8 ns and not 35.
-pub fn held(program: &[u8], at: usize, count: u8, atoms: &[u32]) -> u64
-    requires { (length atoms.now ≡ atom_words) × (count ≤ list_limit) × (at + 2 * count ≤ length program.now) }
+#[tactic(auto, using(crate::proofs::ListedLaws::notings))]
+pub fn held(program: &[u8], at: usize, count: u8, atoms: &[u32; atoms::WORDS]) -> u64
+    requires { (count ≤ list_limit) × (at + 2 * count ≤ length program.now) }
     ensures { HeldAt program.now at count atoms.now result }
 {
     let mut bits = 0;
-    let mut i = 0;
-    while i < count {
-        let next = at + positions::QUERY_BYTES * (bytes::wide(i) as usize);
+    for i in 0..count {
+        let next = at + positions::QUERY_BYTES * usize::from(i);
         let holds = atoms::holds(atoms, program[next], program[next + 1]);
-        bits = noted(bits, bytes::wide(i) as u64, holds);
-        i += 1;
+        bits = noted(bits, u64::from(i), holds);
     }
     bits
 }

@@ -9,37 +9,48 @@ ghost use Rattle.update.specs.Mutations.{MutableOne, Mutable, MutatedOne, Mutate
 
 use gathered::positions;
 use policy::rows;
-use program::codes;
-use program::codes::{Kind, KindOf};
-use shared::bytes;
+use program::codes::Kind;
 use tracked::index;
 
 // Role `role` has the principal x as a member, or no longer.
-fn place_member(policy: &mut [u8], index: &mut [u64], role: usize, x: u64, present: bool)
+// Kept beside `place_taken`: the two have no call in common but `placed`, so one function would take the other calls as closures.
+#[tactic(auto, using(crate::proofs::MutationLaws::ones))]
+fn place_member(
+    policy: &mut [u8],
+    index: &mut [u64; index::WORDS],
+    role: usize,
+    x: u64,
+    present: bool,
+)
     requires { (Mirrored policy.old index.old) × (role < roles policy.old) × (x < operand_count policy.old (member_kind present)) }
     ensures { Made (member_kind present) role x policy.old index.old policy.new index.new }
 {
     if index::note_member(index, role, x, present) {
-        let members = index::placed(present, rows::members_of(policy, role) as u64, x);
+        let members = index::placed(present, u64::from(rows::members_of(policy, role)), x);
         rows::set_members(policy, role, members as u32);
-        return;
     }
 }
 
 // Role `role` takes in role x, or no longer.
-fn place_taken(policy: &mut [u8], index: &mut [u64], role: usize, x: u64, present: bool)
+#[tactic(auto, using(crate::proofs::MutationLaws::ones))]
+fn place_taken(
+    policy: &mut [u8],
+    index: &mut [u64; index::WORDS],
+    role: usize,
+    x: u64,
+    present: bool,
+)
     requires { (Mirrored policy.old index.old) × (role < roles policy.old) × (x < operand_count policy.old (taken_kind present)) }
     ensures { Made (taken_kind present) role x policy.old index.old policy.new index.new }
 {
     if index::note_taken(index, role, x, present) {
         let takes = index::placed(present, rows::takes_of(policy, role), x);
         rows::set_takes(policy, role, takes);
-        return;
     }
 }
 
 // One mutation of a role's row, by its kind.
-fn mutate(policy: &mut [u8], index: &mut [u64], kind: Kind, role: usize, x: u64)
+fn mutate(policy: &mut [u8], index: &mut [u64; index::WORDS], kind: Kind, role: usize, x: u64)
     requires { (Mirrored policy.old index.old) × (role < roles policy.old) × (x < operand_count policy.old (model_kind kind)) }
     ensures { Made (model_kind kind) role x policy.old index.old policy.new index.new }
 {
@@ -52,29 +63,27 @@ fn mutate(policy: &mut [u8], index: &mut [u64], kind: Kind, role: usize, x: u64)
 }
 
 // The mutation that stands at a position. That its bytes are there is known from the program's check.
-fn mutate_at(program: &[u8], at: usize, policy: &mut [u8], index: &mut [u64])
+fn mutate_at(program: &[u8], at: usize, policy: &mut [u8], index: &mut [u64; index::WORDS])
     requires { (Mirrored policy.old index.old) × (MutableOne program.now policy.old at) × (at + 3 ≤ length program.now) }
     ensures { MutatedOne program.now policy.old at index.old policy.new index.new }
 {
-    let KindOf::Is(kind) = codes::kind_of(program[at]) else {
+    let Ok(kind) = Kind::try_from(program[at]) else {
         return;
     };
-    let role = bytes::wide(program[at + 1]) as usize;
-    let x = bytes::wide(program[at + 2]) as u64;
+    let role = usize::from(program[at + 1]);
+    let x = u64::from(program[at + 2]);
     mutate(policy, index, kind, role, x);
 }
 
 // All mutations of the update whose code stands at a position, in written order.
-pub fn mutate_all(program: &[u8], at: usize, policy: &mut [u8], index: &mut [u64])
+#[tactic(auto, using(crate::proofs::MutationLaws::mutatings))]
+pub fn mutate_all(program: &[u8], at: usize, policy: &mut [u8], index: &mut [u64; index::WORDS])
     requires { (Mirrored policy.old index.old) × (Mutable program.now policy.old at) × (at + 2 ≤ length program.now) }
     ensures { Mutated program.now policy.old at index.old policy.new index.new }
 {
     let count = program[at + 1];
-    let mut next = at + 2;
-    let mut i = 0;
-    while i < count {
+    for i in 0..count {
+        let next = at + 2 + positions::MUTATION_BYTES * usize::from(i);
         mutate_at(program, next, policy, index);
-        next = next + positions::MUTATION_BYTES;
-        i += 1;
     }
 }

@@ -2,6 +2,5 @@ use Rattle.std.proofs.Common.{rules}
 use Rattle.execution.proofs.ExecuteLaws.{executing}
 use Rattle.execution.proofs.execute.execute.Goals as goal
 
--- src/execute.rt:76:1
 pub returns : goal.returns
-returns c = search (rules, executing)
+returns g c = search (rules, executing)

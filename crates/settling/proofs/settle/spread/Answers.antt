@@ -2,7 +2,6 @@ use Rattle.std.proofs.Common.{arith}
 use Rattle.settling.proofs.SettleLaws.{spreading_more}
 use Rattle.settling.proofs.settle.spread.Goals as goal
 
--- src/settle.rt:88:5
 pub loop-i-preserved : goal.loop-i-preserved
 loop-i-preserved c = (
   omega arith,

@@ -2,6 +2,5 @@ use Rattle.std.proofs.Common.{rules}
 use Rattle.tracked.proofs.AtomLaws.{fronts}
 use Rattle.tracked.proofs.atoms.load_meanings.Goals as goal
 
--- src/atoms.rt:53:1
 pub returns : goal.returns
 returns c = search (rules, fronts)

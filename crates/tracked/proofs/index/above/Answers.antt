@@ -2,6 +2,5 @@ use Rattle.std.proofs.Common.{rules}
 use Rattle.tracked.proofs.IndexLaws.{gatherings}
 use Rattle.tracked.proofs.index.above.Goals as goal
 
--- src/index.rt:225:5
 pub loop-rest-preserved : goal.loop-rest-preserved
 loop-rest-preserved c = search (rules, gatherings)

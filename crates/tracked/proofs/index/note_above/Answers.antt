@@ -2,6 +2,5 @@ use Rattle.std.proofs.Common.{rules}
 use Rattle.tracked.proofs.IndexLaws.{notings}
 use Rattle.tracked.proofs.index.note_above.Goals as goal
 
--- src/index.rt:210:1
 pub returns : goal.returns
 returns c = search (rules, notings)

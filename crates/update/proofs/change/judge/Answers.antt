@@ -2,6 +2,5 @@ use Rattle.std.proofs.Common.{rules}
 use Rattle.update.proofs.ChangeLaws.{judges}
 use Rattle.update.proofs.change.judge.Goals as goal
 
--- src/change.rt:41:1
 pub returns : goal.returns
 returns c = search (rules, judges)

@@ -2,14 +2,11 @@ use Rattle.std.proofs.Common.{rules}
 use Rattle.update.proofs.MutationLaws.{at_laws}
 use Rattle.update.proofs.mutations.mutate_at.Goals as goal
 
--- src/mutations.rt:60:9
 pub returns-in_default : goal.returns-in_default
 returns-in_default c = search (rules, at_laws)
 
--- src/mutations.rt:64:5
 pub mutate-requires : goal.mutate-requires
 mutate-requires c = search (rules, at_laws)
 
--- src/mutations.rt:55:1
 pub returns : goal.returns
 returns c = search (rules, at_laws)
