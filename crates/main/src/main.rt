@@ -11,23 +11,33 @@ use std::io::{Read, Write};
 use std::rt::Files;
 use std::{fs, io};
 
-// Room for as much of a file as decides its number: one byte more than the longest that is accepted.
-fn policy_room() -> [u8; 1416]
+// Of a file as much as decides its number is read: one byte more than the longest that is accepted.
+const POLICY_BYTES: usize = limit::HEAD_BYTES + limit::FIELD_BYTES * (limit::ROLES as usize) + 1;
+
+const PROGRAM_BYTES: usize = limit::PROGRAM_BYTES + 1;
+
+const MEMORY_BYTES: usize = 4 * (limit::VARIABLES as usize) + 1;
+
+// Room for the text of every answer.
+const TEXT_BYTES: usize = 2048;
+
+// Room for each file. Kept as three: each promises the length that the model has for its own file.
+fn policy_room() -> [u8; POLICY_BYTES]
     ensures { policy_cut ≡ length result }
 {
-    [0; 1416]
+    [0; POLICY_BYTES]
 }
 
-fn program_room() -> [u8; 4097]
+fn program_room() -> [u8; PROGRAM_BYTES]
     ensures { program_cut ≡ length result }
 {
-    [0; 4097]
+    [0; PROGRAM_BYTES]
 }
 
-fn memory_room() -> [u8; 257]
+fn memory_room() -> [u8; MEMORY_BYTES]
     ensures { memory_cut ≡ length result }
 {
-    [0; 257]
+    [0; MEMORY_BYTES]
 }
 
 // Fills the buffer, or comes to the file's end. A file that cannot be read to there counts as empty.
@@ -58,8 +68,14 @@ fn read_file(rt: &impl Files, name: &str, buffer: &mut [u8]) -> usize
     }
 }
 
-// The text of the answer, and its length.
-fn answer(policy: &mut [u8], program: &[u8], memory: &mut [u8], text: &mut [u8; 2048]) -> usize
+// The text of the answer, and its length. Kept in place of `println!`: no contract says what a terminal gets, and this one says
+// which bytes are handed over.
+fn answer(
+    policy: &mut [u8],
+    program: &[u8],
+    memory: &mut [u8],
+    text: &mut [u8; TEXT_BYTES],
+) -> usize
     ensures counts { IsPrefixLen result text.new }
     ensures whole { take result text.new ≡ printed policy.old program.now memory.old }
 {
@@ -74,7 +90,7 @@ fn main(rt: HostRuntime) -> io::Result<()> {
     let policy_length = read_file(&rt, "policy.rxt", &mut policy);
     let program_length = read_file(&rt, "program.rxp", &mut program);
     let memory_length = read_file(&rt, "memory.rxm", &mut memory);
-    let mut text = [0u8; 2048];
+    let mut text = [0; TEXT_BYTES];
     let length = answer(
         &mut policy[..policy_length],
         &program[..program_length],

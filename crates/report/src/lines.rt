@@ -7,6 +7,7 @@ use super::{numbers, writing};
 use shared::{bytes, number};
 
 // A word, a number and the byte after it.
+#[tactic(auto, using(crate::proofs::LineLaws::with_number))]
 fn write_numbered(out: &mut [u8], at: usize, word: &[u8], n: u64, last: u8) -> usize
     ensures { written out.new result ≡ write out.old at (numbered word.now n last) }
 {
@@ -16,6 +17,7 @@ fn write_numbered(out: &mut [u8], at: usize, word: &[u8], n: u64, last: u8) -> u
 }
 
 // A variable that the memory has.
+#[tactic(auto, using(crate::proofs::LineLaws::variable_line_lem))]
 fn write_variable(out: &mut [u8], at: usize, memory: &[u8], x: usize) -> usize
     requires { 4 * x + 4 ≤ length memory.now }
     ensures { written out.new result ≡ write out.old at (variable_line memory.now x) }
@@ -26,14 +28,13 @@ fn write_variable(out: &mut [u8], at: usize, memory: &[u8], x: usize) -> usize
 }
 
 // All variables of the memory.
+#[tactic(auto, using(crate::proofs::LineLaws::variables_end, crate::proofs::LineLaws::variables_more, crate::proofs::LineLaws::variables_none))]
 fn write_variables(out: &mut [u8], at: usize, memory: &[u8]) -> usize
     ensures { written out.new result ≡ write out.old at (variable_lines memory.now (length memory.now / 4)) }
 {
     let mut next = at;
-    let mut x = 0;
-    while x < memory.len() / 4 {
+    for x in 0..memory.len() / 4 {
         next = write_variable(out, next, memory, x);
-        x += 1;
     }
     next
 }
@@ -44,16 +45,17 @@ fn write_rest(out: &mut [u8], at: usize, number: u32, units: u32, memory: &[u8])
     ensures { written out.new result ≡ write out.old at (rest_of number units memory.now) }
 {
     if number == number::ACCEPTED {
-        let next = write_numbered(out, at, b"used ", units as u64, b'\n');
+        let next = write_numbered(out, at, b"used ", u64::from(units), b'\n');
         return write_variables(out, next, memory);
     }
     at
 }
 
 // The whole text, from the start of the buffer; the answer is how many bytes of it there are.
+#[tactic(auto, using(crate::proofs::LineLaws::whole))]
 pub fn write_report(out: &mut [u8], number: u32, units: u32, memory: &[u8]) -> usize
     ensures { written out.new result ≡ write out.old 0 (text_of number units memory.now) }
 {
-    let next = write_numbered(out, 0, b"answer ", number as u64, b'\n');
+    let next = write_numbered(out, 0, b"answer ", u64::from(number), b'\n');
     write_rest(out, next, number, units, memory)
 }

@@ -5,11 +5,6 @@ ghost use Rattle.report.specs.Writing.{written, write};
 
 use super::writing;
 
-// How many values there are, and the lowest negative one.
-const MODULUS: u64 = 4294967296;
-
-const LOWEST: u32 = 2147483648;
-
 // The digit of a number below ten.
 fn digit(d: u64) -> u8
     requires { d < 10 }
@@ -30,13 +25,14 @@ pub fn write_decimal(out: &mut [u8], at: usize, n: u64) -> usize
 }
 
 // A value: a minus sign before the digits of a negative one, whose distance from zero may need the 32nd bit.
-#[tactic(auto, using(crate::proofs::NumberLaws::not_negative, crate::proofs::NumberLaws::is_negative))]
+#[tactic(auto, using(crate::proofs::NumberLaws::signs))]
 pub fn write_signed(out: &mut [u8], at: usize, value: u32) -> usize
     ensures { written out.new result ≡ write out.old at (signed_decimal value) }
 {
-    if value < LOWEST {
-        return write_decimal(out, at, value as u64);
+    let signed = value.cast_signed();
+    if signed < 0 {
+        let digits = writing::put(out, at, b'-');
+        return write_decimal(out, digits, u64::from(signed.unsigned_abs()));
     }
-    let digits = writing::put(out, at, b'-');
-    write_decimal(out, digits, MODULUS - value as u64)
+    write_decimal(out, at, u64::from(value))
 }

@@ -8,7 +8,6 @@ use execution::buffers;
 use execution::execute::Answer;
 use program::layout;
 use shared::{bytes, limit, number};
-use verdict::verdict::Verdict;
 
 // A refusal spends no unit.
 fn refusal(number: u32) -> Answer
@@ -22,7 +21,7 @@ fn run_accepted(policy: &mut [u8], program: &[u8], memory: &mut [u8], fuel: u32)
     requires { program_verdict policy.old program.now ≡ fine }
     ensures { ended result.number result.units policy.new memory.new ≡ run_answer policy.old program.now memory.old fuel }
 {
-    let vars = bytes::wide(layout::variables_of(program)) as usize;
+    let vars = usize::from(layout::variables_of(program));
     if memory.len() != 4 * vars {
         return refusal(number::MEMORY_LENGTH);
     }
@@ -39,9 +38,8 @@ fn run_accepted(policy: &mut [u8], program: &[u8], memory: &mut [u8], fuel: u32)
 pub fn run(policy: &mut [u8], program: &[u8], memory: &mut [u8], fuel: u32) -> Answer
     ensures { ended result.number result.units policy.new memory.new ≡ run_answer policy.old program.now memory.old fuel }
 {
-    let verdict = verdict::verdict::program_verdict(policy, program);
-    match verdict {
-        Verdict::Fine => run_accepted(policy, program, memory, fuel),
-        Verdict::Refused(k, _) => refusal(k),
+    match verdict::verdict::program_verdict(policy, program) {
+        Ok(()) => run_accepted(policy, program, memory, fuel),
+        Err(refused) => refusal(refused.number),
     }
 }

@@ -6,12 +6,12 @@ use Rattle.model.specs.Number.{fine, refused, number_of}
 use Rattle.model.specs.Flow.{part, program_verdict, transaction_part}
 use Rattle.model.specs.Calls.{located, locate, body, body_of, part_bytes}
 use Rattle.model.proofs.Bodies.{transaction_none}
-use Rattle.verdict.specs.declared.verdict.Verdict.{Verdict as Answer}
-use Rattle.verdict.specs.declared.verdict.Verdict.TheVariants.{Fine, Refused}
+use Rattle.std.specs.Prelude.{⊤, Result, Ok, Err}
+use Rattle.program.specs.declared.answer.RefusedAt.{RefusedAt}
 use Rattle.verdict.specs.Verdict.{verdict_of}
 
-module _ (s p : List ℕ) (a : Answer) (h : verdict_of a ≡ program_verdict s p) where
-  module _ (e : a ≡ Fine) where
+module _ (s p : List ℕ) (a : Result ⊤ RefusedAt) (h : verdict_of a ≡ program_verdict s p) where
+  module _ (e : a ≡ Ok tt) where
     pub accepted_verdict : program_verdict s p ≡ fine
     accepted_verdict = sym h ∙ ap verdict_of e
 
@@ -30,18 +30,18 @@ module _ (s p : List ℕ) (a : Answer) (h : verdict_of a ≡ program_verdict s p
         → bytes ≡ part_bytes p (transaction_part s p k)
     accepted_part k start size bytes g f = f ∙ ap (part_bytes p) g
 
-  module _ (k place : ℕ) (e : a ≡ Refused k place) where
-    refused_verdict : program_verdict s p ≡ refused k place
+  module _ (r : RefusedAt) (e : a ≡ Err r) where
+    refused_verdict : program_verdict s p ≡ refused r.number r.place
     refused_verdict = sym h ∙ ap verdict_of e
 
-    pub refused_number : k ≡ number_of (program_verdict s p)
+    pub refused_number : r.number ≡ number_of (program_verdict s p)
     refused_number = rw refused_verdict
 
-    pub refused_place : located k place ≡ locate (program_verdict s p)
+    pub refused_place : located r.number r.place ≡ locate (program_verdict s p)
     unfolding locate
     refused_place = rw refused_verdict
 
-    pub refused_body : (n start size : ℕ) → start ≡ 0 → size ≡ 0 → body k start size ≡ body_of (program_verdict s p) (transaction_part s p n)
+    pub refused_body : (n start size : ℕ) → start ≡ 0 → size ≡ 0 → body r.number start size ≡ body_of (program_verdict s p) (transaction_part s p n)
     unfolding body_of
     refused_body n start size e f = rw (e, f, transaction_none s p n refused_verdict, refused_verdict)
 

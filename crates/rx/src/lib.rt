@@ -13,7 +13,6 @@ ghost use Rattle.model.specs.Claim.{Claim};
 
 use execution::execute::Answer;
 use shared::number;
-use verdict::verdict::Verdict;
 
 // The number 0 to 6 of any bytes as a policy.
 pub fn rx_policy(policy: &[u8]) -> u32
@@ -26,19 +25,25 @@ pub fn rx_policy(policy: &[u8]) -> u32
 pub fn rx_meaning(policy: &[u8], role: u32, bits: &mut u32) -> u32
     ensures { answer result bits.new ≡ meaning_of policy.now role }
 {
-    let meaning = meaning::least::meaning_of(policy, role);
-    *bits = meaning.bits;
-    meaning.number
+    match meaning::least::meaning_of(policy, role) {
+        Ok(meaning) => {
+            *bits = meaning;
+            number::ACCEPTED
+        }
+        Err(refusal) => {
+            *bits = 0;
+            u32::from(refusal)
+        }
+    }
 }
 
 // The number of a program under a policy: 1 to 6 of the policy, else 10 to 18 of the program, else 0.
 pub fn rx_program(policy: &[u8], program: &[u8]) -> u32
     ensures { result ≡ number_of (program_verdict policy.now program.now) }
 {
-    let verdict = verdict::verdict::program_verdict(policy, program);
-    match verdict {
-        Verdict::Fine => number::ACCEPTED,
-        Verdict::Refused(k, _) => k,
+    match verdict::verdict::program_verdict(policy, program) {
+        Ok(()) => number::ACCEPTED,
+        Err(refused) => refused.number,
     }
 }
 
@@ -46,15 +51,14 @@ pub fn rx_program(policy: &[u8], program: &[u8]) -> u32
 pub fn rx_place(policy: &[u8], program: &[u8], place: &mut usize) -> u32
     ensures { located result place.new ≡ place_answer policy.now program.now }
 {
-    let verdict = verdict::verdict::program_verdict(policy, program);
-    match verdict {
-        Verdict::Fine => {
+    match verdict::verdict::program_verdict(policy, program) {
+        Ok(()) => {
             *place = 0;
             number::ACCEPTED
         }
-        Verdict::Refused(k, shown) => {
-            *place = shown;
-            k
+        Err(refused) => {
+            *place = refused.place;
+            refused.number
         }
     }
 }
@@ -70,18 +74,17 @@ pub fn rx_transaction(
 ) -> u32
     ensures { body result start.new length.new ≡ transaction_answer policy.now program.now k }
 {
-    let verdict = verdict::verdict::program_verdict(policy, program);
-    match verdict {
-        Verdict::Fine => {
+    match verdict::verdict::program_verdict(policy, program) {
+        Ok(()) => {
             let span = transactions::span::body_span(policy, program, k as usize);
             *start = span.start;
             *length = span.size;
             number::ACCEPTED
         }
-        Verdict::Refused(number, _) => {
+        Err(refused) => {
             *start = 0;
             *length = 0;
-            number
+            refused.number
         }
     }
 }
@@ -90,7 +93,7 @@ pub fn rx_transaction(
 pub fn transaction_body<'a>(policy: &[u8], program: &'a [u8], k: usize) -> &'a [u8]
     ensures { result.now ≡ part_bytes program.now (transaction_part policy.now program.now k) }
 {
-    let Verdict::Fine = verdict::verdict::program_verdict(policy, program) else {
+    let Ok(()) = verdict::verdict::program_verdict(policy, program) else {
         return transactions::span::part_of(program, 0, 0);
     };
     let span = transactions::span::body_span(policy, program, k);

@@ -2,10 +2,8 @@ use Rattle.std.proofs.Common.{rules}
 use Rattle.rx.proofs.Laws.{answers}
 use Rattle.rx.proofs.rx_transaction.Goals as goal
 
--- src/lib.rt:64:1
-pub returns-in-Fine : goal.returns-in-Fine
-returns-in-Fine c = search (rules, answers)
+pub returns-in-Ok : goal.returns-in-Ok
+returns-in-Ok c = search (rules, answers)
 
--- src/lib.rt:64:1
-pub returns-in-Refused : goal.returns-in-Refused
-returns-in-Refused c = search (rules, answers)
+pub returns-in-Err : goal.returns-in-Err
+returns-in-Err c = search (rules, answers)

@@ -2,6 +2,5 @@ use Rattle.std.proofs.Common.{rules}
 use Rattle.run.proofs.RunLaws.{refusals}
 use Rattle.run.proofs.run.run.Goals as goal
 
--- src/run.rt:39:1
-pub returns-in-Refused : goal.returns-in-Refused
-returns-in-Refused c = search (rules, refusals)
+pub returns-in-Err : goal.returns-in-Err
+returns-in-Err c = search (rules, refusals)
