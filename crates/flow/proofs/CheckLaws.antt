@@ -1,5 +1,6 @@
 -- A law for each return of check.rt: the tests that led there and what the callees say give the rules' verdict of the tree
 -- that stands at the position.
+use Rattle.std.specs.Prelude.{IsErrAnd}
 use Rattle.std.proofs.Common.{Result, Ok, Err}
 use mathlib.Core.Path.{◌≡◌, refl, sym, ap, subst, ◌∙◌}
 use Prim.Native.Nat.{ℕ, ◌+◌, ◌-◌, ◌<◌, ◌≤◌}
@@ -25,8 +26,9 @@ use Rattle.model.proofs.Standing.{many_none, many_more, stmt_deep, stmt_there, s
 use Rattle.model.proofs.FlowParts.{Subset}
 use Rattle.program.specs.declared.codes.Statement.{Statement}
 use Rattle.program.specs.declared.codes.Statement.TheVariants.{Skip, Assign, Block, If, While, Query, Update, Transaction}
-use Rattle.program.specs.Answer.{Reached, reached, stopped, place_limit, refusal, told}
-use Rattle.program.proofs.AnswerLaws.{position_told, refusal_told}
+use Rattle.program.specs.Answer.{Reached, reached, stopped, refusal}
+use Rattle.program.specs.declared.refused.Refused.{Refused}
+use Rattle.program.specs.Refused.{tells}
 use Rattle.program.specs.Codes.{statement_of, statement_byte}
 use Rattle.program.proofs.CodeLaws.{statement_byte_lem, statement_none}
 use Rattle.program.specs.Skips.{Skips}
@@ -50,7 +52,7 @@ use Rattle.rules.specs.Check.{checked_to, Inside as InsideIs, AroundIs, found_fr
 use Rattle.flow.specs.Check.{CodedAt, PairAt, BranchesAt, Knowing, BothAt, LearntAt, BranchesOf}
 use Rattle.context.proofs.ContextLaws.{context_query, context_list}
 use Rattle.context.proofs.ListLaws.{query_not, query_is}
-use Rattle.rules.proofs.StandsLaws.{stopped_told, stands_asked, roles_few, low_start, low_end, stands_context, under_all, joined_is, within_one, within_none}
+use Rattle.rules.proofs.StandsLaws.{stopped_tells, stands_asked, roles_few, low_start, stands_context, under_all, joined_is, within_one, within_none}
 use Rattle.flow.proofs.FreeLaws.{all_fits, free_query, free_same, free_met, free_known, free_expr}
 use Rattle.program.specs.declared.codes.UnknownCode.{UnknownCode}
 
@@ -58,31 +60,30 @@ use Rattle.program.specs.declared.codes.UnknownCode.{UnknownCode}
 pub reached_not : {A : Type 0} {m k place : ℕ} → reached m ≡ stopped k place → A
 reached_not e = let z : ◌≡◌ {A = ℕ} 0 1 = cc in absurd (omega arith)
 
--- two verdicts one after the other
-module _ (v w : Verdict) (mid end : ℕ) (r : Reached) (e : r ≡ checked_to v mid) where
-  or_stopped : (k place : ℕ) → r ≡ stopped k place → r ≡ checked_to (or_else v w) end
-  unfolding checked_to
-  or_stopped k place h = go v e
-    where
-      go : (v : Verdict) → r ≡ checked_to v mid → r ≡ checked_to (or_else v w) end
-      go fine e = reached_not (sym e ∙ h)
-      go (refused l n) e = e
+-- two verdicts one after the other: a refusal is passed on as it came, by `?`
+pub passed_on : (v w : Verdict) (mid end : ℕ) (x : Refused) (r : Result ℕ Refused) → tells (Err x) ≡ checked_to v mid → IsErrAnd r (λ y. y ≡ x) → tells r ≡ checked_to (or_else v w) end
+unfolding checked_to
+passed_on fine w mid end x r e q = reached_not (sym e)
+passed_on (refused k place) w mid end x (Err y) e q = rw q e
+passed_on (refused k place) w mid end x (Ok m) e q = elim q [ ]
 
-  reached_is : (m : ℕ) → r ≡ reached m → m ≡ mid
+-- or the second begins where the first ends
+module _ (v w : Verdict) (m mid : ℕ) (e : reached m ≡ checked_to v mid) where
+  reached_is : m ≡ mid
   unfolding checked_to
-  reached_is m h = go v e
+  reached_is = go v e
     where
-      go : (v : Verdict) → r ≡ checked_to v mid → m ≡ mid
+      go : (v : Verdict) → reached m ≡ checked_to v mid → m ≡ mid
       go fine e = cc
-      go (refused l n) e = reached_not (sym h ∙ e)
+      go (refused l n) e = reached_not e
 
-  or_reached : (m : ℕ) → r ≡ reached m → or_else v w ≡ w
+  or_reached : or_else v w ≡ w
   unfolding checked_to
-  or_reached m h = go v e
+  or_reached = go v e
     where
-      go : (v : Verdict) → r ≡ checked_to v mid → or_else v w ≡ w
+      go : (v : Verdict) → reached m ≡ checked_to v mid → or_else v w ≡ w
       go fine e = refl
-      go (refused l n) e = reached_not (sym h ∙ e)
+      go (refused l n) e = reached_not e
 
 -- what the parts write
 writes_parts : (around : Surroundings) (x a b : Stmt) → assigned x ≡ bit_or (assigned a) (assigned b) → mutated x ≡ bit_or (mutated a) (mutated b)
@@ -117,41 +118,42 @@ block_fits s p around a rest f =
     ((f.0.0, l), (f.0.1, m))
 
 -- two statements
-module _ (s p : List ℕ) (t : Table) (c : Carried) (d at : ℕ) (o : ℕ) (f : CheckedAt s p t c d at o) where
-  pub pair_first : place_limit ≤ o → PairAt s p t c d at o
+module _ (s p : List ℕ) (t : Table) (c : Carried) (d at : ℕ) where
+  pub pair_first : (e : Refused) (r : Result ℕ Refused) → CheckedAt s p t c d at (Err e) → IsErrAnd r (λ y. y ≡ e) → PairAt s p t c d at r
   unfolding CheckedAt PairAt
-  pair_first e around known C x y mid end st h fit i fit' = or_stopped _ _ mid end (told o) (f around known C x mid st h fit) _ _ (refusal_told o e)
+  pair_first e r f q around known C x y mid end st h fit i fit' = passed_on _ _ mid end e r (f around known C x mid st h fit) q
 
-  pub pair_second : (r : ℕ) → o < place_limit → CheckedAt s p t c d o r → PairAt s p t c d at r
+  pub pair_second : (m : ℕ) (r : Result ℕ Refused) → CheckedAt s p t c d at (Ok m) → CheckedAt s p t c d m r → PairAt s p t c d at r
   unfolding CheckedAt PairAt
-  pair_second r e g around known C x y mid end st h fit i fit' =
+  pair_second m r f g around known C x y mid end st h fit i fit' =
       let v = f around known C x mid st h fit in
-      let k : o ≡ mid = reached_is _ (flow s p around known C y) mid end (told o) v o (position_told o e) in
-      g around known C y end st (rw k i) fit' ∙ rw (or_reached _ (flow s p around known C y) mid end (told o) v o (position_told o e))
+      let k : m ≡ mid = reached_is _ (flow s p around known C y) m mid v in
+      g around known C y end st (rw k i) fit' ∙ rw (or_reached _ (flow s p around known C y) m mid v)
 
 -- an accepted policy has few roles
 pub few_roles : (s : List ℕ) (n : ℕ) → Accepted s → n ≡ roles s → n ≤ role_limit
 few_roles s n ok e = rw e (accepted_facts s ok).roles_fit
 
 -- the branches of a query: the first by the table k and what b carries, which also know it, the second by the table t
-module _ (s p : List ℕ) (k t : Table) (b c : Carried) (d at : ℕ) (o : ℕ) (f : CheckedAt s p k b d at o) where
+module _ (s p : List ℕ) (k t : Table) (b c : Carried) (d at : ℕ) (o : Result ℕ Refused) (f : CheckedAt s p k b d at o) where
   first_branch : (q : ModelQuery) → Knowing s p k t b c q → (around : Surroundings) (known : List ModelQuery) (C : Side → List Atom) (x : Stmt) (mid : ℕ)
       → QueryFits (roles s) q → Stands s p t c around known C → StmtAt s p d at x mid → StmtFits s p around x
-      → told o ≡ checked_to (flow s p around (q ∷ known) C x) mid
+      → tells o ≡ checked_to (flow s p around (q ∷ known) C x) mid
   unfolding CheckedAt Knowing
   first_branch q l around known C x mid fits st h fit = f around (q ∷ known) C x mid (l around known C fits st) h fit
 
-  pub branches_first : place_limit ≤ o → BothAt s p k t b c d at o
+module _ (s p : List ℕ) (k t : Table) (b c : Carried) (d at : ℕ) where
+  pub branches_first : (e : Refused) (r : Result ℕ Refused) → CheckedAt s p k b d at (Err e) → IsErrAnd r (λ y. y ≡ e) → BothAt s p k t b c d at r
   unfolding BothAt BranchesAt
-  branches_first g q l around known C x y mid end below st h fit h' fit' =
-      or_stopped _ _ mid end (told o) (first_branch q l around known C x mid below st h fit) _ _ (refusal_told o g)
+  branches_first e r f g q l around known C x y mid end below st h fit h' fit' =
+      passed_on _ _ mid end e r (first_branch s p k t b c d at (Err e) f q l around known C x mid below st h fit) g
 
-  pub branches_second : (r : ℕ) → o < place_limit → CheckedAt s p t c d o r → BothAt s p k t b c d at r
+  pub branches_second : (m : ℕ) (r : Result ℕ Refused) → CheckedAt s p k b d at (Ok m) → CheckedAt s p t c d m r → BothAt s p k t b c d at r
   unfolding BothAt BranchesAt CheckedAt
-  branches_second r g w q l around known C x y mid end below st h fit h' fit' =
-      let v = first_branch q l around known C x mid below st h fit in
-      let e : o ≡ mid = reached_is _ (flow s p around known C y) mid end (told o) v o (position_told o g) in
-      w around known C y end st (rw e h') fit' ∙ rw (or_reached _ (flow s p around known C y) mid end (told o) v o (position_told o g))
+  branches_second m r f w q l around known C x y mid end below st h fit h' fit' =
+      let v = first_branch s p k t b c d at (Ok m) f q l around known C x mid below st h fit in
+      let e : m ≡ mid = reached_is _ (flow s p around known C y) m mid v in
+      w around known C y end st (rw e h') fit' ∙ rw (or_reached _ (flow s p around known C y) m mid v)
 
 -- a transaction whose updates are held to what a table gives stands for what it stood for
 module _ (p : List ℕ) (k : Table) (R vars : ℕ) where
@@ -211,7 +213,7 @@ module _ (s p : List ℕ) (k t : Table) (q : ModelQuery) (l : Learnt (roles s) t
       knowing_by (carried b x) (carried a x) (held_around p k (roles s) (variables p) a b h) (held_free p k (roles s) (variables p) a b h)
       (λ w i _. held_meets p k (roles s) (variables p) a b h w i) refl
 
-pub held_both : (s p : List ℕ) (k t : Table) (a b : Around) (x : Context) (d at : ℕ) (r : ℕ) → Held p k a b → BothAt s p k t (carried b x) (carried a x) d at r → LearntAt s p k t (carried a x) d at r
+pub held_both : (s p : List ℕ) (k t : Table) (a b : Around) (x : Context) (d at : ℕ) (r : Result ℕ Refused) → Held p k a b → BothAt s p k t (carried b x) (carried a x) d at r → LearntAt s p k t (carried a x) d at r
 unfolding BothAt LearntAt
 held_both s p k t a b x d at r h f q l = f q (knowing_learnt s p k t q l a b x h)
 
@@ -219,7 +221,7 @@ knowing_same : (s p : List ℕ) (t : Table) (q : ModelQuery) → Learnt (roles s
 knowing_same s p t q l c = knowing_by s p t t q l c c (λ w h. h) (λ z. z) (λ w _ h. h) refl
 
 -- a query in a free transaction
-asked_free : (s p : List ℕ) (t : Table) (c : Carried) (a : CodeTransaction) (d at asked : ℕ) (r : ℕ) → c.around ≡ Inside a → a.free ≡ true → PairAt s p t c d at r → BranchesOf s p t c d at asked r
+asked_free : (s p : List ℕ) (t : Table) (c : Carried) (a : CodeTransaction) (d at asked : ℕ) (r : Result ℕ Refused) → c.around ≡ Inside a → a.free ≡ true → PairAt s p t c d at r → BranchesOf s p t c d at asked r
 unfolding PairAt BranchesOf BranchesAt Writes
 asked_free s p t c a d at asked r i z g q end _ around known C x y mid after below st h fit h' fit' =
     let w = within_one p (roles s) (variables p) c.around around a st.surrounded i in
@@ -230,17 +232,17 @@ asked_free s p t c a d at asked r i z g q end _ around known C x y mid after bel
     g around known C x y mid after st h fit h' fit' ∙ ap (λ (v : Verdict). checked_to (or_else v (flow s p around known C y)) after) same
 
 -- a query that the table knows
-asked_known : (s p : List ℕ) (t : Table) (c : Carried) (d at asked : ℕ) (b : Bool) (r : ℕ) → KnownAt p t asked b → b ≡ true → BothAt s p t t c c d at r → BranchesOf s p t c d at asked r
+asked_known : (s p : List ℕ) (t : Table) (c : Carried) (d at asked : ℕ) (b : Bool) (r : Result ℕ Refused) → KnownAt p t asked b → b ≡ true → BothAt s p t t c c d at r → BranchesOf s p t c d at asked r
 unfolding KnownAt BothAt BranchesOf
 asked_known s p t c d at asked b r g z h q end i = h q (knowing_same s p t q (known_learnt (roles s) t q b (g (roles s) q end i) z) c)
 
 -- with a table of its own
 module _ (s p : List ℕ) (t : Table) (c : Carried) (d at asked : ℕ) (o : Result CodeQuery UnknownCode) (f : QueryAt p asked o) where
-  pub learnt_none : (r : ℕ) (x : UnknownCode) → o ≡ Err x → BranchesOf s p t c d at asked r
+  pub learnt_none : (r : Result ℕ Refused) (x : UnknownCode) → o ≡ Err x → BranchesOf s p t c d at asked r
   unfolding QueryAt BranchesOf
   learnt_none r x g q end h = query_not o q x (f (roles s) q end h) g
 
-  pub learnt_both : (a : CodeQuery) (n : ℕ) (k : Table) (r : ℕ) → o ≡ Ok a → n ≡ roles s → Learnt n t k (query_of a.first a.second) → LearntAt s p k t c d at r → BranchesOf s p t c d at asked r
+  pub learnt_both : (a : CodeQuery) (n : ℕ) (k : Table) (r : Result ℕ Refused) → o ≡ Ok a → n ≡ roles s → Learnt n t k (query_of a.first a.second) → LearntAt s p k t c d at r → BranchesOf s p t c d at asked r
   unfolding QueryAt LearntAt BranchesOf
   learnt_both a n k r g e l w q end h =
       w q (learnt_same t k e (query_is o q a (f (roles s) q end h) g) l)
@@ -249,14 +251,14 @@ module _ (s p : List ℕ) (t : Table) (c : Carried) (d at asked : ℕ) (o : Resu
       learnt_same t k e f l = rw (← e, ← f) l
 
 -- a skip is never refused
-skip_checked : (s p : List ℕ) (t : Table) (c : Carried) (d at q : ℕ) → byte p at ≡ 0 → q ≡ ahead p at 1 → CheckedAt s p t c d at q
+skip_checked : (s p : List ℕ) (t : Table) (c : Carried) (d at q : ℕ) → byte p at ≡ 0 → q ≡ ahead p at 1 → CheckedAt s p t c d at (Ok q)
 unfolding CheckedAt flow checked_to
 skip_checked s p t c d at q code e around known C x end st h fit =
     let u = skip_parts p (principals s) (roles s) (variables p) d at h code in
     let qe : q ≡ end = e ∙ ahead_is p at 1 (omega (arith, stmt_there p (principals s) (roles s) (variables p) d at h)) ∙ sym u.1 in
-    rw (u.0, qe) (position_told end (low_end st d at h))
+    rw (u.0, qe) refl
 
-pub branch_skip : (s p : List ℕ) (t : Table) (c : Carried) (d at q : ℕ) (i : Bool) → i ≡ eqb (byte p at) 0 → i ≡ true → q ≡ ahead p at 1 → CheckedAt s p t c d at q
+pub branch_skip : (s p : List ℕ) (t : Table) (c : Carried) (d at q : ℕ) (i : Bool) → i ≡ eqb (byte p at) 0 → i ≡ true → q ≡ ahead p at 1 → CheckedAt s p t c d at (Ok q)
 branch_skip s p t c d at q i e h k = skip_checked s p t c d at q (eqb-true (byte p at) 0 (sym e ∙ h)) k
 
 -- a statement, by its code
@@ -282,50 +284,40 @@ module _ (s p : List ℕ) (t : Table) (c : Carried) (d at : ℕ) where
       record { rest = u.parts; rest_read = rw (le, ne) u.parts_read; rest_fits = rw u.is at fit; same = ap (flow s p around known C) u.is }
 
   module _ (left next : ℕ) (inv : Blocking left next) where
-    pub block_done : left ≤ 0 → CodedAt Block s p t c d at next
+    pub block_done : left ≤ 0 → CodedAt Block s p t c d at (Ok next)
     unfolding Blocking CodedAt CheckedAt checked_to block_of flow
     block_done none code around known C x end st h fit =
         let u = inv around known C x end code st h fit in
         let v = many_none _ left next u.rest_read none in
         let ne : next ≡ end = sym v.1 in
-        rw (u.same, v.0, ne) (position_told end (low_end st d at h))
+        rw (u.same, v.0, ne) refl
 
-    module _ (some : 0 < left) (o : ℕ) (f : CheckedAt s p t c (d - 1) next o) where
-      pub block_refused : place_limit ≤ o → CodedAt Block s p t c d at o
+    module _ (some : 0 < left) where
+      pub block_refused : (e : Refused) (r : Result ℕ Refused) → CheckedAt s p t c (d - 1) next (Err e) → IsErrAnd r (λ y. y ≡ e) → CodedAt Block s p t c d at r
       unfolding Blocking CodedAt CheckedAt block_of flow
-      block_refused e code around known C x end st h fit =
+      block_refused e r f q code around known C x end st h fit =
           let u = inv around known C x end code st h fit in
           let v = many_more _ left next u.rest_read some in
           let w = block_fits s p around v.head v.tail (rw v.is at u.rest_fits) in
-          rw (u.same, v.is) (or_stopped _ _ v.mid end (told o) (f around known C v.head v.mid st v.head_read w.0) _ _ (refusal_told o e))
+          rw (u.same, v.is) (passed_on _ _ v.mid end e r (f around known C v.head v.mid st v.head_read w.0) q)
 
-      pub block_more : o < place_limit → Blocking (left - 1) o
+      pub block_more : (m : ℕ) → CheckedAt s p t c (d - 1) next (Ok m) → Blocking (left - 1) m
       unfolding Blocking CheckedAt block_of flow
-      block_more e around known C x end code st h fit =
+      block_more m f around known C x end code st h fit =
           let u = inv around known C x end code st h fit in
           let v = many_more _ left next u.rest_read some in
           let w = block_fits s p around v.head v.tail (rw v.is at u.rest_fits) in
           let g = f around known C v.head v.mid st v.head_read w.0 in
-          let k : o ≡ v.mid = reached_is _ fine v.mid end (told o) g o (position_told o e) in
+          let k : m ≡ v.mid = reached_is _ fine m v.mid g in
           record {
             rest = v.tail;
             rest_read = rw k v.tail_read;
             rest_fits = w.1;
-            same = u.same ∙ ap (λ (ys : List Stmt). flow s p around known C (block_of ys)) v.is ∙ or_reached _ (flow s p around known C (block_of v.tail)) v.mid end (told o) g o (position_told o e);
+            same = u.same ∙ ap (λ (ys : List Stmt). flow s p around known C (block_of ys)) v.is ∙ or_reached _ (flow s p around known C (block_of v.tail)) m v.mid g;
           }
 
     block_skip : (m : ℕ) (b : Bool) → 0 < left → b ≡ eqb (byte p next) 0 → b ≡ true → m ≡ ahead p next 1 → Blocking (left - 1) m
-    unfolding Blocking
-    block_skip m b some e h k around known C x end code st i fit =
-        let low : m < place_limit = low_next around known C x end code st i fit in
-        block_more some m (branch_skip s p t c (d - 1) next m b e h k) low around known C x end code st i fit
-      where
-        low_next : (around : Surroundings) (known : List ModelQuery) (C : Side → List Atom) (x : Stmt) (end : ℕ) → byte p at ≡ 2 → Stands s p t c around known C → StmtAt s p d at x end → StmtFits s p around x → m < place_limit
-        low_next around known C x end code st i fit =
-            let u = inv around known C x end code st i fit in
-            let v = many_more _ left next u.rest_read some in
-            let z : m ≡ next + 1 = k ∙ ahead_is p next 1 (omega (arith, stmt_there p (principals s) (roles s) (variables p) (d - 1) next v.head_read)) in
-            omega (arith, st.short, stmt_there p (principals s) (roles s) (variables p) (d - 1) next v.head_read)
+    block_skip m b some e h k = block_more some m (branch_skip s p t c (d - 1) next m b e h k)
 
   -- skips in a row
   skip_blocked : (left next : ℕ) → Blocking left next → 0 < left → next < length p → byte p next ≡ 0 → Blocking (left - 1) (next + 1)
@@ -336,7 +328,7 @@ module _ (s p : List ℕ) (t : Table) (c : Carried) (d at : ℕ) where
   block_row left next inv b m n q some e h k row few q-is = rw q-is (over_row p Blocking skip_blocked m n (left - 1) row (block_skip left next inv m b some e h k) few)
 
   -- an if, a while
-  module _ (q : ℕ) (l : Context) (next : ℕ) (r : ℕ) (e : q ≡ ahead p at 1) (f : JoinedAt p q c.context l next) where
+  module _ (q : ℕ) (l : Context) (next : ℕ) (r : Result ℕ Refused) (e : q ≡ ahead p at 1) (f : JoinedAt p q c.context l next) where
     pub if_checked : PairAt s p t (carried c.around l) (d - 1) next r → CodedAt If s p t c d at r
     unfolding CodedAt CheckedAt PairAt flow
     if_checked h code around known C x end st i fit =
@@ -362,11 +354,11 @@ module _ (s p : List ℕ) (t : Table) (c : Carried) (d at : ℕ) where
         (stands_context st _ b (free_expr s p known C around u.test w.0)) (rw le u.body_read) (w.1, wb))
 
   -- a query
-  pub query_outside : (a : Labels) (r : ℕ) → c.around ≡ Outside a → r ≡ refusal 15 at → CodedAt Query s p t c d at r
+  pub query_outside : (a : Labels) (r : Refused) → c.around ≡ Outside a → r.word ≡ refusal 15 at → CodedAt Query s p t c d at (Err r)
   unfolding CodedAt CheckedAt flow checked_to
   query_outside a r e re code around known C x end st h fit =
       let u = branch_parts p (principals s) (roles s) (variables p) d at h code in
-      rw (u.is, (within_none p (roles s) (variables p) c.around around a st.surrounded e).0) (stopped_told r 15 at re (omega arith) (low_start st d at h))
+      rw (u.is, (within_none p (roles s) (variables p) c.around around a st.surrounded e).0) (stopped_tells r 15 at re (low_start st d at h))
 
   module _ (a : CodeTransaction) (e : c.around ≡ Inside a) (m n : ℕ) (l : Bool) (w : m ≡ ahead p at 1) (ne : n ≡ a.count) (listed : ListedAt p n a.list m l) where
     listed_is : (asked : ModelQuery) (qs : List ModelQuery) (end after : ℕ) → at + 1 + 2 ≤ length p → read_many (read_query p (roles s)) a.count a.list ≡ got qs end → read_query p (roles s) (at + 1) ≡ got asked after → l ≡ listed_in asked qs
@@ -375,20 +367,20 @@ module _ (s p : List ℕ) (t : Table) (c : Carried) (d at : ℕ) where
         let me : m ≡ at + 1 = w ∙ ahead_is p at 1 (omega arith) in
         listed (roles s) qs asked end after (rw ne h) (rw me k)
 
-    pub query_unlisted : (r : ℕ) → l ≡ false → r ≡ refusal 15 at → CodedAt Query s p t c d at r
+    pub query_unlisted : (r : Refused) → l ≡ false → r.word ≡ refusal 15 at → CodedAt Query s p t c d at (Err r)
     unfolding CodedAt CheckedAt flow checked_to
     query_unlisted r k re code around known C x end st h fit =
         let u = branch_parts p (principals s) (roles s) (variables p) d at h code in
         let v = within_one p (roles s) (variables p) c.around around a st.surrounded e in
         let b = listed_is u.asked v.listed v.parts.end (at + 3) u.asked_parts.inside v.parts.listed_read u.asked_read in
-        rw (u.is, v.is, sym b ∙ k) (stopped_told r 15 at re (omega arith) (low_start st d at h))
+        rw (u.is, v.is, sym b ∙ k) (stopped_tells r 15 at re (low_start st d at h))
 
     -- listed: its label is joined to the context of both branches
     module _ (le : l ≡ true) (named start : ℕ) (es : start ≡ ahead p at 3) (f : QueryRolesAt p m named) where
       abbrev asking : Carried
       asking = carried c.around (with_named c.context named)
 
-      query_by : (r : ℕ) → ((q : ModelQuery) (end : ℕ) → read_query p (roles s) m ≡ got q end → BranchesAt s p t asking (d - 1) start q r) → CodedAt Query s p t c d at r
+      query_by : (r : Result ℕ Refused) → ((q : ModelQuery) (end : ℕ) → read_query p (roles s) m ≡ got q end → BranchesAt s p t asking (d - 1) start q r) → CodedAt Query s p t c d at r
       unfolding CodedAt CheckedAt BranchesAt QueryRolesAt flow
       query_by r g code around known C x end st h fit =
           let u = branch_parts p (principals s) (roles s) (variables p) d at h code in
@@ -405,25 +397,25 @@ module _ (s p : List ℕ) (t : Table) (c : Carried) (d at : ℕ) where
           (rw v.is at (g u.asked (at + 3) asked around known (λ side. query_label side u.asked ++ C side) u.left u.right u.mid end
           fits.0 (stands_context st _ cq (λ f. subst (λ a. Free s p a known (under_query u.asked C)) (sym v.is) (free_query s p v.listed v.xs v.rs known C (subst (λ a. Free s p a known C) v.is f) u.asked member))) (rw se u.left_read) (fits.1, wl) u.right_read (fits.2, wr)))
 
-      pub query_listed : (r : ℕ) → BranchesOf s p t asking (d - 1) start m r → CodedAt Query s p t c d at r
+      pub query_listed : (r : Result ℕ Refused) → BranchesOf s p t asking (d - 1) start m r → CodedAt Query s p t c d at r
       unfolding BranchesOf
       query_listed r h = query_by r h
 
-      pub query_free : (r : ℕ) → a.free ≡ true → PairAt s p t asking (d - 1) start r → CodedAt Query s p t c d at r
+      pub query_free : (r : Result ℕ Refused) → a.free ≡ true → PairAt s p t asking (d - 1) start r → CodedAt Query s p t c d at r
       query_free r z g = query_listed r (asked_free s p t asking a (d - 1) start m r e z g)
 
-      pub query_known : (b : Bool) (r : ℕ) → KnownAt p t m b → b ≡ true → BothAt s p t t asking asking (d - 1) start r → CodedAt Query s p t c d at r
+      pub query_known : (b : Bool) (r : Result ℕ Refused) → KnownAt p t m b → b ≡ true → BothAt s p t t asking asking (d - 1) start r → CodedAt Query s p t c d at r
       query_known b r f z g = query_listed r (asked_known s p t asking (d - 1) start m b r f z g)
 
   -- a transaction
-  pub transaction_nested : (a : CodeTransaction) (r : ℕ) → c.around ≡ Inside a → r ≡ refusal 15 at → CodedAt Transaction s p t c d at r
+  pub transaction_nested : (a : CodeTransaction) (r : Refused) → c.around ≡ Inside a → r.word ≡ refusal 15 at → CodedAt Transaction s p t c d at (Err r)
   unfolding CodedAt CheckedAt flow checked_to
   transaction_nested a r e re code around known C x end st h fit =
       let u = transaction_parts p (principals s) (roles s) (variables p) d at h code in
       let w = within_one p (roles s) (variables p) c.around around a st.surrounded e in
-      rw (u.is, w.is) (stopped_told r 15 at re (omega arith) (low_start st d at h))
+      rw (u.is, w.is) (stopped_tells r 15 at re (low_start st d at h))
 
-  pub transaction_body : (m : ℕ) (a : Labels) (b : Around) (r : ℕ) → c.around ≡ Outside a → m ≡ after_list p at 2 → Enters p t a c.context (d - 1) at b
+  pub transaction_body : (m : ℕ) (a : Labels) (b : Around) (r : Result ℕ Refused) → c.around ≡ Outside a → m ≡ after_list p at 2 → Enters p t a c.context (d - 1) at b
       → CheckedAt s p t (carried b c.context) (d - 1) m r → CodedAt Transaction s p t c d at r
   unfolding CodedAt CheckedAt EnteredAt flow
   transaction_body m a b r e me f g code around known C x end st h fit =
@@ -454,20 +446,20 @@ module _ (s p : List ℕ) (t : Table) (c : Carried) (d at : ℕ) where
       }) (rw mm u.body_read) (fits.1, writes_body u.listed u.body))
 
   -- any statement
-  pub stmt_none : (r : ℕ) → d ≡ 0 → CheckedAt s p t c d at r
+  pub stmt_none : (r : Result ℕ Refused) → d ≡ 0 → CheckedAt s p t c d at r
   unfolding CheckedAt
   stmt_none r e around known C x end st h fit = absurd (stmt_deep p (principals s) (roles s) (variables p) d at h e)
 
   module _ (o : Result Statement UnknownCode) (i : o ≡ statement_of (byte p at)) where
-    pub stmt_unknown : (r : ℕ) → o ≡ (Err (record {})) → CheckedAt s p t c d at r
+    pub stmt_unknown : (r : Result ℕ Refused) → o ≡ (Err (record {})) → CheckedAt s p t c d at r
     unfolding CheckedAt
     stmt_unknown r k around known C x end st h fit = absurd (omega (arith, statement_none (byte p at) o i k, stmt_known p (principals s) (roles s) (variables p) d at h))
 
     module _ (code : Statement) (j : o ≡ Ok code) where
-      pub stmt_skip : (q : ℕ) → code ≡ Skip → q ≡ ahead p at 1 → CheckedAt s p t c d at q
+      pub stmt_skip : (q : ℕ) → code ≡ Skip → q ≡ ahead p at 1 → CheckedAt s p t c d at (Ok q)
       stmt_skip q k e = skip_checked s p t c d at q (statement_byte_lem (byte p at) o i code j ∙ ap statement_byte k) e
 
-      module _ (r : ℕ) where
+      module _ (r : Result ℕ Refused) where
         pub stmt_assign : code ≡ Assign → AssignAt p t c.context at r → CheckedAt s p t c d at r
         unfolding AssignAt
         stmt_assign k f = f s c d refl (statement_byte_lem (byte p at) o i code j ∙ ap statement_byte k)

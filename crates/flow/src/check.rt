@@ -15,7 +15,8 @@ use gathered::positions;
 use order::table::Table;
 use policy::rows;
 use program::codes::Statement;
-use program::{answer, skips};
+use program::refused::Refused;
+use program::skips;
 use rules::{enter, simple};
 use shared::{bytes, number};
 
@@ -29,18 +30,18 @@ pub fn check_stmt(
     context: &Context,
     depth: u8,
     at: usize,
-) -> u64
+) -> Result<usize, Refused>
     requires { Accepted files.now.policy.now }
     ensures { CheckedAt files.now.policy.now files.now.program.now table.now (carried around.now context.now) depth at result }
 {
     if depth == 0 {
-        return answer::refused(number::PROGRAM_DEPTH, at);
+        return Err(Refused::new(number::PROGRAM_DEPTH, at));
     }
     let Ok(code) = positions::statement_at(files.program, at) else {
-        return answer::refused(number::PROGRAM_CODE, at);
+        return Err(Refused::new(number::PROGRAM_CODE, at));
     };
     match code {
-        Statement::Skip => positions::ahead(files.program, at, 1) as u64,
+        Statement::Skip => Ok(positions::ahead(files.program, at, 1)),
         Statement::Assign => simple::check_assign(&files.program, table, context, at),
         Statement::Block => check_block(files, table, around, context, depth, at),
         Statement::If => check_if(files, table, around, context, depth, at),
@@ -62,12 +63,12 @@ fn check_part(
     context: &Context,
     depth: u8,
     at: usize,
-) -> u64
+) -> Result<usize, Refused>
     requires { Accepted files.now.policy.now }
     ensures { CheckedAt files.now.policy.now files.now.program.now table.now (carried around.now context.now) depth at result }
 {
     let Ok(code) = positions::statement_at(files.program, at) else {
-        return answer::refused(number::PROGRAM_CODE, at);
+        return Err(Refused::new(number::PROGRAM_CODE, at));
     };
     match code {
         Statement::Assign => simple::check_assign(&files.program, table, context, at),
@@ -87,7 +88,7 @@ fn check_block(
     context: &Context,
     depth: u8,
     at: usize,
-) -> u64
+) -> Result<usize, Refused>
     requires { (Accepted files.now.policy.now) × (0 < depth) }
     ensures { CodedAt Block files.now.policy.now files.now.program.now table.now (carried around.now context.now) depth at result }
 {
@@ -102,16 +103,11 @@ fn check_block(
             next = skips::after(files.program, rest, more);
             left -= more;
         } else {
-            let one = check_part(files, table, around, context, inner, next);
-            if answer::REFUSED <= one {
-                return one;
-            }
-            let end = one as usize;
-            next = end;
+            next = check_part(files, table, around, context, inner, next)?;
             left -= 1;
         }
     }
-    next as u64
+    Ok(next)
 }
 
 // A branch of an if or a query. It is often a skip, which is passed over here as in a block. This and the pair go into their
@@ -126,12 +122,12 @@ fn check_branch(
     context: &Context,
     depth: u8,
     at: usize,
-) -> u64
+) -> Result<usize, Refused>
     requires { Accepted files.now.policy.now }
     ensures { CheckedAt files.now.policy.now files.now.program.now table.now (carried around.now context.now) depth at result }
 {
     if positions::is_skip(files.program, at) {
-        return positions::ahead(files.program, at, 1) as u64;
+        return Ok(positions::ahead(files.program, at, 1));
     }
     check_stmt(files, table, around, context, depth, at)
 }
@@ -147,15 +143,11 @@ fn check_pair(
     context: &Context,
     depth: u8,
     at: usize,
-) -> u64
+) -> Result<usize, Refused>
     requires { Accepted files.now.policy.now }
     ensures { PairAt files.now.policy.now files.now.program.now table.now (carried around.now context.now) depth at result }
 {
-    let one = check_branch(files, table, around, context, depth, at);
-    if answer::REFUSED <= one {
-        return one;
-    }
-    let mid = one as usize;
+    let mid = check_branch(files, table, around, context, depth, at)?;
     check_branch(files, table, around, context, depth, mid)
 }
 
@@ -169,7 +161,7 @@ fn check_if(
     context: &Context,
     depth: u8,
     at: usize,
-) -> u64
+) -> Result<usize, Refused>
     requires { (Accepted files.now.policy.now) × (0 < depth) }
     ensures { CodedAt If files.now.policy.now files.now.program.now table.now (carried around.now context.now) depth at result }
 {
@@ -189,7 +181,7 @@ fn check_while(
     context: &Context,
     depth: u8,
     at: usize,
-) -> u64
+) -> Result<usize, Refused>
     requires { (Accepted files.now.policy.now) × (0 < depth) }
     ensures { CodedAt While files.now.policy.now files.now.program.now table.now (carried around.now context.now) depth at result }
 {
@@ -211,12 +203,12 @@ fn check_query(
     context: &Context,
     depth: u8,
     at: usize,
-) -> u64
+) -> Result<usize, Refused>
     requires { (Accepted files.now.policy.now) × (0 < depth) }
     ensures { CodedAt Query files.now.policy.now files.now.program.now table.now (carried around.now context.now) depth at result }
 {
     let Around::Inside(transaction) = around else {
-        return answer::refused(number::FLOW_TRANSACTION, at);
+        return Err(Refused::new(number::FLOW_TRANSACTION, at));
     };
     let inner = depth - 1;
     let query = positions::ahead(files.program, at, 1);
@@ -233,7 +225,7 @@ fn check_query(
         }
         return check_learnt(files, table, around, &joined, inner, start, query);
     }
-    answer::refused(number::FLOW_TRANSACTION, at)
+    Err(Refused::new(number::FLOW_TRANSACTION, at))
 }
 
 // The branches of the query that stands at `query`, which the table does not know: the first has a table that does.
@@ -247,12 +239,12 @@ fn check_learnt(
     depth: u8,
     at: usize,
     query: usize,
-) -> u64
+) -> Result<usize, Refused>
     requires { Accepted files.now.policy.now }
     ensures { BranchesOf files.now.policy.now files.now.program.now table.now (carried around.now context.now) depth at query result }
 {
     let Ok(known) = lists::query_at(files.program, query) else {
-        return answer::refused(number::PROGRAM_CODE, query);
+        return Err(Refused::new(number::PROGRAM_CODE, query));
     };
     let mut learnt = *table;
     order::learn::learn(
@@ -275,7 +267,7 @@ fn check_held(
     context: &Context,
     depth: u8,
     at: usize,
-) -> u64
+) -> Result<usize, Refused>
     requires { Accepted files.now.policy.now }
     ensures { LearntAt files.now.policy.now files.now.program.now learnt.now table.now (carried around.now context.now) depth at result }
 {
@@ -295,15 +287,11 @@ fn check_branches(
     context: &Context,
     depth: u8,
     at: usize,
-) -> u64
+) -> Result<usize, Refused>
     requires { Accepted files.now.policy.now }
     ensures { BothAt files.now.policy.now files.now.program.now learnt.now table.now (carried known.now context.now) (carried around.now context.now) depth at result }
 {
-    let one = check_branch(files, learnt, known, context, depth, at);
-    if answer::REFUSED <= one {
-        return one;
-    }
-    let other = one as usize;
+    let other = check_branch(files, learnt, known, context, depth, at)?;
     check_branch(files, table, around, context, depth, other)
 }
 
@@ -317,12 +305,12 @@ fn check_transaction(
     context: &Context,
     depth: u8,
     at: usize,
-) -> u64
+) -> Result<usize, Refused>
     requires { (Accepted files.now.policy.now) × (0 < depth) }
     ensures { CodedAt Transaction files.now.policy.now files.now.program.now table.now (carried around.now context.now) depth at result }
 {
     let Around::Outside(all) = around else {
-        return answer::refused(number::FLOW_TRANSACTION, at);
+        return Err(Refused::new(number::FLOW_TRANSACTION, at));
     };
     let inner = depth - 1;
     let body = positions::after_list(files.program, at, positions::QUERY_BYTES);

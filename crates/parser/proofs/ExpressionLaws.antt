@@ -1,5 +1,6 @@
 -- A law for each return of expressions.rt: the definition goes by the code, with one less of depth for what it holds.
 use Rattle.std.proofs.Common.{Result, Ok, Err}
+use Rattle.std.specs.Prelude.{IsErrAnd}
 use mathlib.Core.Path.{◌≡◌, refl, ◌∙◌}
 use Prim.Native.Nat.{ℕ, zero, suc, ◌+◌, ◌-◌, ◌<◌, ◌≤◌}
 use mathlib.Core.List.{List}
@@ -17,10 +18,13 @@ use Rattle.program.specs.declared.codes.Operator.{Operator}
 use Rattle.program.specs.declared.codes.Operator.TheVariants.{Sum, Difference, Product, Quotient, Less, Equal}
 use Rattle.program.specs.declared.codes.Expression.{Expression}
 use Rattle.program.specs.declared.codes.Expression.TheVariants.{Constant, Variable, Binary}
-use Rattle.program.specs.Answer.{stopped, place_limit, told, end_of}
+use Rattle.program.specs.Answer.{stopped, place_limit, end_of}
+use Rattle.program.specs.Refused.{Answers}
+use Rattle.program.specs.declared.refused.Refused.{Refused}
 use Rattle.program.specs.Codes.{expression_of, model_operator}
 use Rattle.program.proofs.CodeLaws.{through}
-use Rattle.program.proofs.AnswerLaws.{position_told, tells, then_at, then_refused, then_last, byte_there, byte_missing}
+use Rattle.program.proofs.AnswerLaws.{then_last, byte_there, byte_missing}
+use Rattle.program.proofs.RefusedLaws.{made, position_low, answer_at, goes_on, stops, answers_same}
 use Rattle.program.specs.declared.codes.UnknownCode.{UnknownCode}
 
 constant_at : List ℕ → ℕ → Reading Expr
@@ -65,24 +69,26 @@ module _ (s : List ℕ) (v d at : ℕ) (f : d ≡ 0 → ⊥) where
       unfolding coded constant_at end_of
       constant_missing g i = let j : length s < at + 1 + 4 = omega arith in rw (here, h, g) (simp (lt-leb _ _ j))
 
-      pub constant_read : length s < place_limit → x ≡ Constant → 4 ≤ length s - (at + 1) → told (at + 1 + 4) ≡ end_of (read_expr s v d at)
+      pub constant_read : length s < place_limit → x ≡ Constant → 4 ≤ length s - (at + 1) → Answers (Ok (at + 1 + 4)) (end_of (read_expr s v d at))
       unfolding coded constant_at end_of
       constant_read short g i =
           let j : at + 1 + 4 ≤ length s = omega arith in
-          position_told (at + 1 + 4) (omega arith) ∙ (rw (here, h, g) (simp (le-leb _ _ j)))
+          answer_at (at + 1 + 4) _ (omega arith) (rw (here, h, g) (simp (le-leb _ _ j)))
 
-      pub variable_read : (r : ℕ) → x ≡ Variable → told r ≡ end_of (read_below s v (at + 1)) → told r ≡ end_of (read_expr s v d at)
-      unfolding coded
-      variable_read r g i = rw (here, h, g) (i ∙ then_last (read_below s v (at + 1)) variable)
+      module _ (r : Result ℕ Refused) where
+        pub variable_read : x ≡ Variable → Answers r (end_of (read_below s v (at + 1))) → Answers r (end_of (read_expr s v d at))
+        unfolding coded
+        variable_read g i = rw (here, h, g) (answers_same r (then_last (read_below s v (at + 1)) variable) i)
 
-      module _ (o : Operator) (g : x ≡ Binary o) (a : ℕ) (i : told a ≡ end_of (read_expr s v (d - 1) (at + 1))) where
-        pub binary_first : place_limit ≤ a → told a ≡ end_of (read_expr s v d at)
-        unfolding coded binary_at
-        binary_first j = rw (here, h, g) (then_refused (read_expr s v (d - 1) (at + 1)) _ i j)
+        module _ (o : Operator) (g : x ≡ Binary o) where
+          pub binary_first : (e : Refused) → Answers (Err e) (end_of (read_expr s v (d - 1) (at + 1))) → IsErrAnd r (λ y. y ≡ e) → Answers r (end_of (read_expr s v d at))
+          unfolding coded binary_at
+          binary_first e i q = rw (here, h, g) (stops (read_expr s v (d - 1) (at + 1)) _ e r i q)
 
-        pub binary_second : (r : ℕ) → a < place_limit → told r ≡ end_of (read_expr s v (d - 1) a) → told r ≡ end_of (read_expr s v d at)
-        unfolding coded binary_at
-        binary_second r j m =
-            rw (here, h, g) (then_at (read_expr s v (d - 1) (at + 1)) _ i j (λ y. m ∙ then_last (read_expr s v (d - 1) a) (binary (model_operator o) y)))
+          pub binary_second : (a : ℕ) → Answers (Ok a) (end_of (read_expr s v (d - 1) (at + 1))) → Answers r (end_of (read_expr s v (d - 1) a)) → Answers r (end_of (read_expr s v d at))
+          unfolding coded binary_at
+          binary_second a i j =
+              rw (here, h, g)
+              (goes_on (read_expr s v (d - 1) (at + 1)) _ a r i (λ y. answers_same r (then_last (read_expr s v (d - 1) a) (binary (model_operator o) y)) j))
 
-pub ruleset expressions = (expr_deep, expr_missing, expr_unknown, constant_missing, constant_read, variable_read, binary_first, binary_second, tells)
+pub ruleset expressions = (expr_deep, expr_missing, expr_unknown, constant_missing, constant_read, variable_read, binary_first, binary_second, position_low, made)

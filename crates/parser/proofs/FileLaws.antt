@@ -1,5 +1,6 @@
 -- A law for each return of file.rt: what was read so far says which case of the definition is left.
 use mathlib.Core.Path.{◌≡◌, sym, ◌∙◌}
+use Rattle.std.specs.Prelude.{Result, Ok, Err, IsErrAnd}
 use mathlib.Core.Logic.{⊎_elim}
 use Prim.Native.Nat.{ℕ, suc, ◌+◌, ◌*◌, ◌<◌, ◌≤◌}
 use mathlib.Core.List.{List, [], ◌∷◌}
@@ -18,8 +19,11 @@ use Rattle.model.specs.Bytes.{byte}
 use Rattle.model.specs.Program.{bad, and_then, read_below, read_mark, read_many, read_label, read_stmt, read_body, read_program, version, program_head}
 use Rattle.model.proofs.Reading.{one_or_two}
 use Rattle.shared.specs.Marks.{matching}
-use Rattle.program.specs.Answer.{Reached, reached, stopped, place_limit, refusal, told, end_of, read_variables}
-use Rattle.program.proofs.AnswerLaws.{position_told, tell_refusal, position_low, answer_told, tells, then_reached, then_at, then_refused, then_stopped, byte_there, byte_missing}
+use Rattle.program.specs.Answer.{Reached, reached, stopped, end_of, read_variables}
+use Rattle.program.specs.Refused.{Answers}
+use Rattle.program.specs.declared.refused.Refused.{Refused}
+use Rattle.program.proofs.AnswerLaws.{then_reached, then_stopped, byte_there, byte_missing}
+use Rattle.program.proofs.RefusedLaws.{made, position_told, position_low, goes_on, stops}
 use Rattle.program.proofs.AtomLaws.{below_missing, below_large, below_read}
 
 -- a mark, of which the bytes match the first k: read whole, or stopped at the first byte that is missing or differs
@@ -57,47 +61,47 @@ module _ (s m : List ℕ) (k : ℕ) (e : k ≡ matching s m) where
   there : mark_end (length s) (length m) 0 k ≡ end_of (read_mark s m 0)
   there = rw e (sym (mark_end_lem s m 0 (omega arith)))
 
-  pub mark_read : length m < place_limit → k ≡ length m → told k ≡ end_of (read_mark s m 0)
+  pub mark_read : k ≡ length m → reached k ≡ end_of (read_mark s m 0)
   unfolding mark_end
-  mark_read l h = position_told k (omega arith) ∙ (simp (eq-eqb _ _ h, zero-add) at there)
+  mark_read h = simp (eq-eqb _ _ h, zero-add) at there
 
   module _ (n : k ≡ length m → ⊥) where
     pub mark_missing : length s ≤ k → stopped 10 (length s) ≡ end_of (read_mark s m 0)
     unfolding mark_end
     mark_missing h = simp (ne_eqb _ _ n, zero-add, le-leb _ _ h) at there
 
-    pub mark_differs : (w : ℕ) → length s < place_limit → w ≡ refusal 11 k → k < length s → told w ≡ end_of (read_mark s m 0)
+    pub mark_differs : k < length s → stopped 11 k ≡ end_of (read_mark s m 0)
     unfolding mark_end
-    mark_differs w l e h = tell_refusal w 11 k _ e (omega arith) (omega arith) (simp (ne_eqb _ _ n, zero-add, lt-leb _ _ h) at there)
+    mark_differs h = simp (ne_eqb _ _ n, zero-add, lt-leb _ _ h) at there
 
-pub ruleset marks = (mark_read, mark_missing, mark_differs, tells)
+pub ruleset marks = (mark_read, mark_missing, mark_differs, made)
 
 -- the head of the version that the program is of
-module _ (s : List ℕ) (v r : ℕ) (e : v ≡ version s) where
-  pub head_two : v ≡ 2 → told r ≡ end_of (read_mark s (program_head 2) 0) → told r ≡ end_of (read_mark s (program_head (version s)) 0)
+module _ (s : List ℕ) (v : ℕ) (r : Result ℕ Refused) (e : v ≡ version s) where
+  pub head_two : v ≡ 2 → Answers r (end_of (read_mark s (program_head 2) 0)) → Answers r (end_of (read_mark s (program_head (version s)) 0))
   head_two h g = rw (← e, h) g
 
-  pub head_one : (v ≡ 2 → ⊥) → told r ≡ end_of (read_mark s (program_head 1) 0) → told r ≡ end_of (read_mark s (program_head (version s)) 0)
+  pub head_one : (v ≡ 2 → ⊥) → Answers r (end_of (read_mark s (program_head 1) 0)) → Answers r (end_of (read_mark s (program_head (version s)) 0))
   head_one n g = ⊎_elim (λ o. rw o g) (λ t. absurd (n (e ∙ t))) (one_or_two s)
 
 pub ruleset heads = (head_two, head_one)
 
 -- the body
-module _ (s : List ℕ) (P R v at a : ℕ) (e : told a ≡ end_of (read_stmt s P R v statement_depth at)) where
-  pub body_refused : place_limit ≤ a → told a ≡ end_of (read_body s P R v at)
+module _ (s : List ℕ) (P R v at : ℕ) where
+  pub body_refused : (e : Refused) (r : Result ℕ Refused) → Answers (Err e) (end_of (read_stmt s P R v statement_depth at)) → IsErrAnd r (λ y. y ≡ e) → Answers r (end_of (read_body s P R v at))
   unfolding read_body
-  body_refused h = then_refused (read_stmt s P R v statement_depth at) _ e h
+  body_refused e r h q = stops (read_stmt s P R v statement_depth at) _ e r h q
 
-  module _ (h : a < place_limit) where
+  module _ (a : ℕ) (h : Answers (Ok a) (end_of (read_stmt s P R v statement_depth at))) where
     pub body_more : (a ≡ length s → ⊥) → stopped 10 a ≡ end_of (read_body s P R v at)
     unfolding read_body end_of
-    body_more n = then_at (read_stmt s P R v statement_depth at) _ e h (λ x. simp (ne_eqb _ _ n))
+    body_more n = then_reached (read_stmt s P R v statement_depth at) _ (position_told a _ h) (λ x. simp (ne_eqb _ _ n))
 
     pub body_read : a ≡ length s → reached a ≡ end_of (read_body s P R v at)
     unfolding read_body end_of
-    body_read n = then_at (read_stmt s P R v statement_depth at) _ e h (λ x. simp (eq-eqb _ _ n))
+    body_read n = then_reached (read_stmt s P R v statement_depth at) _ (position_told a _ h) (λ x. simp (eq-eqb _ _ n))
 
-pub ruleset bodies = (body_refused, body_more, body_read, tells)
+pub ruleset bodies = (body_refused, body_more, body_read, position_low, made)
 
 -- V and the labels
 module _ (s : List ℕ) (P R at : ℕ) where
@@ -110,16 +114,18 @@ module _ (s : List ℕ) (P R at : ℕ) where
     unfolding read_variables
     variables_many h = then_stopped (read_below s 65 at) _ (below_large s 65 at l (omega arith))
 
-    module _ (n : byte s at ≤ variable_limit) (a : ℕ) (e : told a ≡ end_of (read_many (read_label s R) (2 * byte s at) (at + 1))) where
-      pub variables_labels : place_limit ≤ a → told a ≡ end_of (read_variables s P R at)
+    module _ (n : byte s at ≤ variable_limit) (r : Result ℕ Refused) where
+      pub variables_labels : (e : Refused) → Answers (Err e) (end_of (read_many (read_label s R) (2 * byte s at) (at + 1))) → IsErrAnd r (λ y. y ≡ e) → Answers r (end_of (read_variables s P R at))
       unfolding read_variables and_then
-      variables_labels h = rw (below_read s 65 at l (omega arith)) (then_refused (read_many (read_label s R) (2 * byte s at) (at + 1)) _ e h)
+      variables_labels e h q =
+          rw (below_read s 65 at l (omega arith)) (stops (read_many (read_label s R) (2 * byte s at) (at + 1)) _ e r h q)
 
-      pub variables_body : (r : ℕ) → a < place_limit → told r ≡ end_of (read_body s P R (byte s at) a) → told r ≡ end_of (read_variables s P R at)
+      pub variables_body : (a : ℕ) → Answers (Ok a) (end_of (read_many (read_label s R) (2 * byte s at) (at + 1))) → Answers r (end_of (read_body s P R (byte s at) a)) → Answers r (end_of (read_variables s P R at))
       unfolding read_variables and_then
-      variables_body r h g = rw (below_read s 65 at l (omega arith)) (then_at (read_many (read_label s R) (2 * byte s at) (at + 1)) _ e h (λ x. g))
+      variables_body a h g =
+          rw (below_read s 65 at l (omega arith)) (goes_on (read_many (read_label s R) (2 * byte s at) (at + 1)) _ a r h (λ x. g))
 
-pub ruleset variables = (variables_missing, variables_many, variables_labels, variables_body, tells)
+pub ruleset variables = (variables_missing, variables_many, variables_labels, variables_body, position_low, made)
 
 -- the whole program
 module _ (s : List ℕ) (P R : ℕ) where
@@ -127,13 +133,13 @@ module _ (s : List ℕ) (P R : ℕ) where
   unfolding read_program end_of
   program_long h = simp (lt-leb _ _ h)
 
-  module _ (l : length s ≤ program_bytes) (a : ℕ) (e : told a ≡ end_of (read_mark s (program_head (version s)) 0)) where
-    pub program_mark_lem : (n place : ℕ) → stopped n place ≡ told a → stopped n place ≡ end_of (read_program s P R)
+  module _ (l : length s ≤ program_bytes) (r : Result ℕ Refused) where
+    pub program_marked : (e : Refused) → Answers (Err e) (end_of (read_mark s (program_head (version s)) 0)) → IsErrAnd r (λ y. y ≡ e) → Answers r (end_of (read_program s P R))
     unfolding read_program
-    program_mark_lem n place h = simp (le-leb _ _ l) (then_stopped (read_mark s (program_head (version s)) 0) _ (h ∙ e))
+    program_marked e h q = simp (le-leb _ _ l) (stops (read_mark s (program_head (version s)) 0) _ e r h q)
 
-    pub program_rest : (next r : ℕ) → reached next ≡ told a → told r ≡ end_of (read_variables s P R next) → told r ≡ end_of (read_program s P R)
+    pub program_rest : (next : ℕ) → Answers (Ok next) (end_of (read_mark s (program_head (version s)) 0)) → Answers r (end_of (read_variables s P R next)) → Answers r (end_of (read_program s P R))
     unfolding read_program read_variables
-    program_rest next r h g = simp (le-leb _ _ l) (then_reached (read_mark s (program_head (version s)) 0) _ (h ∙ e) (λ x. g))
+    program_rest next h g = simp (le-leb _ _ l) (goes_on (read_mark s (program_head (version s)) 0) _ next r h (λ x. g))
 
-pub ruleset programs = (program_long, program_mark_lem, program_rest, position_low, answer_told)
+pub ruleset programs = (program_long, program_marked, program_rest, position_low, made)

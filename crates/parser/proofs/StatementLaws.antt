@@ -1,5 +1,6 @@
 -- A law for each return of statements.rt: the definition goes by the code, with one less of depth for what it holds.
 use Rattle.std.proofs.Common.{Result, Ok, Err}
+use Rattle.std.specs.Prelude.{IsErrAnd}
 use mathlib.Core.Path.{◌≡◌, refl, sym, ◌∙◌}
 use Prim.Native.Nat.{ℕ, zero, suc, ◌+◌, ◌-◌, ◌<◌, ◌≤◌}
 use mathlib.Core.List.{List}
@@ -16,25 +17,28 @@ use Rattle.model.specs.Syntax.{Stmt, skip, if, while, query, transaction}
 use Rattle.model.specs.Program.{Read as Reading, got, bad, and_then, read_byte, read_below, read_many, read_expr, read_query, read_mutation, block_of, assign_at, block_at, if_at, while_at, query_at, update_at, transaction_at, stmt_at, read_stmt}
 use Rattle.program.specs.declared.codes.Statement.{Statement}
 use Rattle.program.specs.declared.codes.Statement.TheVariants.{Skip, Assign, Block, If, While, Query, Update, Transaction}
-use Rattle.program.specs.Answer.{Reached, reached, stopped, place_limit, told, end_of, read_assign, read_update, FindsCode}
+use Rattle.program.specs.Answer.{Reached, reached, stopped, place_limit, end_of, read_assign, read_update, FindsCode}
 use Rattle.program.specs.Codes.{statement_of}
+use Rattle.program.specs.Refused.{Answers}
+use Rattle.program.specs.declared.refused.Refused.{Refused}
 use Rattle.program.proofs.CodeLaws.{through}
 use Rattle.program.specs.Skips.{Skips}
 use Rattle.program.proofs.SkipLaws.{skips_low, over_row}
-use Rattle.program.proofs.AnswerLaws.{position_told, tells, then_at, then_refused, then_last, then_end, then_same, pick_same, byte_there, byte_missing, many, many_next}
+use Rattle.program.proofs.AnswerLaws.{then_last, then_end, then_same, pick_same, byte_there, byte_missing, many_next}
+use Rattle.program.proofs.RefusedLaws.{made, many, position_low, answer_at, goes_on, stops, answers_same}
 use Rattle.program.specs.declared.codes.UnknownCode.{UnknownCode}
 
 -- an assignment
-module _ (s : List ℕ) (v at a : ℕ) (e : told a ≡ end_of (read_below s v at)) where
-  pub assign_target : place_limit ≤ a → told a ≡ end_of (read_assign s v at)
+module _ (s : List ℕ) (v at : ℕ) (r : Result ℕ Refused) where
+  pub assign_target : (e : Refused) → Answers (Err e) (end_of (read_below s v at)) → IsErrAnd r (λ y. y ≡ e) → Answers r (end_of (read_assign s v at))
   unfolding read_assign
-  assign_target h = then_refused (read_below s v at) _ e h
+  assign_target e h q = stops (read_below s v at) _ e r h q
 
-  pub assign_value : (r : ℕ) → a < place_limit → told r ≡ end_of (read_expr s v expression_depth a) → told r ≡ end_of (read_assign s v at)
+  pub assign_value : (a : ℕ) → Answers (Ok a) (end_of (read_below s v at)) → Answers r (end_of (read_expr s v expression_depth a)) → Answers r (end_of (read_assign s v at))
   unfolding read_assign
-  assign_value r h g = then_at (read_below s v at) _ e h (λ x. g)
+  assign_value a h g = goes_on (read_below s v at) _ a r h (λ x. g)
 
-pub ruleset assigns = (assign_target, assign_value)
+pub ruleset assigns = (assign_target, assign_value, position_low)
 
 -- an update
 module _ (s : List ℕ) (P R at : ℕ) where
@@ -52,13 +56,13 @@ module _ (s : List ℕ) (P R at : ℕ) where
       unfolding read_update end_of
       update_many h = let g : 0 < byte s at = omega arith in rw (byte_there s at _ l) (simp (lt-ltb _ _ g, lt-leb _ _ h))
 
-      pub update_read : (r : ℕ) → byte s at ≤ list_limit → told r ≡ end_of (read_many (read_mutation s P R) (byte s at) (at + 1)) → told r ≡ end_of (read_update s P R at)
+      pub update_read : (r : Result ℕ Refused) → byte s at ≤ list_limit → Answers r (end_of (read_many (read_mutation s P R) (byte s at) (at + 1))) → Answers r (end_of (read_update s P R at))
       unfolding read_update
       update_read r h e =
           let g : (byte s at ≡ 0 → ⊥) → 0 < byte s at = λ m. omega arith in
           rw (byte_there s at _ l) (simp (lt-ltb _ _ (g n), le-leb _ _ h) e)
 
-pub ruleset updates = (update_missing, update_none, update_many, update_read, tells)
+pub ruleset updates = (update_missing, update_none, update_many, update_read, made)
 
 module _ (s : List ℕ) (P R v : ℕ) (sub : ℕ → Reading Stmt) where
   -- a block: its loop begins with all its statements left
@@ -70,45 +74,46 @@ module _ (s : List ℕ) (P R v : ℕ) (sub : ℕ → Reading Stmt) where
   unfolding block_at
   block_begins at l = rw (byte_there s at _ l) (then_last (read_many sub (byte s at) (at + 1)) block_of)
 
-  -- an if and a while: the test, then what they hold
-  module _ (at t : ℕ) (e : told t ≡ end_of (read_expr s v expression_depth at)) where
-    pub if_test : place_limit ≤ t → told t ≡ end_of (if_at s P R v sub at)
-    unfolding if_at
-    if_test h = then_refused (read_expr s v expression_depth at) _ e h
+  module _ (at : ℕ) (r : Result ℕ Refused) where
+    -- an if and a while: the test, then what they hold
+    module _ (e : Refused) (h : Answers (Err e) (end_of (read_expr s v expression_depth at))) (q : IsErrAnd r (λ y. y ≡ e)) where
+      pub if_test : Answers r (end_of (if_at s P R v sub at))
+      unfolding if_at
+      if_test = stops (read_expr s v expression_depth at) _ e r h q
 
-    pub while_test : place_limit ≤ t → told t ≡ end_of (while_at s P R v sub at)
-    unfolding while_at
-    while_test h = then_refused (read_expr s v expression_depth at) _ e h
-
-    module _ (h : t < place_limit) (a : ℕ) (g : told a ≡ end_of (sub t)) where
-      pub while_body : told a ≡ end_of (while_at s P R v sub at)
+      pub while_test : Answers r (end_of (while_at s P R v sub at))
       unfolding while_at
-      while_body = then_at (read_expr s v expression_depth at) _ e h (λ x. g ∙ then_last (sub t) (while x))
+      while_test = stops (read_expr s v expression_depth at) _ e r h q
 
-      pub if_first : place_limit ≤ a → told a ≡ end_of (if_at s P R v sub at)
+    module _ (t : ℕ) (h : Answers (Ok t) (end_of (read_expr s v expression_depth at))) where
+      pub while_body : Answers r (end_of (sub t)) → Answers r (end_of (while_at s P R v sub at))
+      unfolding while_at
+      while_body g = goes_on (read_expr s v expression_depth at) _ t r h (λ x. answers_same r (then_last (sub t) (while x)) g)
+
+      pub if_first : (e : Refused) → Answers (Err e) (end_of (sub t)) → IsErrAnd r (λ y. y ≡ e) → Answers r (end_of (if_at s P R v sub at))
       unfolding if_at
-      if_first i = then_at (read_expr s v expression_depth at) _ e h (λ x. then_refused (sub t) _ g i)
+      if_first e g q = goes_on (read_expr s v expression_depth at) _ t r h (λ x. stops (sub t) _ e r g q)
 
-      pub if_second : (r : ℕ) → a < place_limit → told r ≡ end_of (sub a) → told r ≡ end_of (if_at s P R v sub at)
+      pub if_second : (a : ℕ) → Answers (Ok a) (end_of (sub t)) → Answers r (end_of (sub a)) → Answers r (end_of (if_at s P R v sub at))
       unfolding if_at
-      if_second r i j =
-          then_at (read_expr s v expression_depth at) _ e h (λ x. then_at (sub t) _ g i (λ y. j ∙ then_last (sub a) (if x y)))
+      if_second a i j =
+          goes_on (read_expr s v expression_depth at) _ t r h (λ x. goes_on (sub t) _ a r i (λ y. answers_same r (then_last (sub a) (if x y)) j))
 
-  -- a query: its atoms, then what it holds
-  module _ (place at t : ℕ) (e : told t ≡ end_of (read_query s R at)) where
-    pub query_atoms : place_limit ≤ t → told t ≡ end_of (query_at s P R v sub place at)
-    unfolding query_at
-    query_atoms h = then_refused (read_query s R at) _ e h
-
-    module _ (h : t < place_limit) (a : ℕ) (g : told a ≡ end_of (sub t)) where
-      pub query_first : place_limit ≤ a → told a ≡ end_of (query_at s P R v sub place at)
+    -- a query: its atoms, then what it holds
+    module _ (place : ℕ) where
+      pub query_atoms : (e : Refused) → Answers (Err e) (end_of (read_query s R at)) → IsErrAnd r (λ y. y ≡ e) → Answers r (end_of (query_at s P R v sub place at))
       unfolding query_at
-      query_first i = then_at (read_query s R at) _ e h (λ x. then_refused (sub t) _ g i)
+      query_atoms e h q = stops (read_query s R at) _ e r h q
 
-      pub query_second : (r : ℕ) → a < place_limit → told r ≡ end_of (sub a) → told r ≡ end_of (query_at s P R v sub place at)
-      unfolding query_at
-      query_second r i j =
-          then_at (read_query s R at) _ e h (λ x. then_at (sub t) _ g i (λ y. j ∙ then_last (sub a) (query place x y)))
+      module _ (t : ℕ) (h : Answers (Ok t) (end_of (read_query s R at))) where
+        pub query_first : (e : Refused) → Answers (Err e) (end_of (sub t)) → IsErrAnd r (λ y. y ≡ e) → Answers r (end_of (query_at s P R v sub place at))
+        unfolding query_at
+        query_first e g q = goes_on (read_query s R at) _ t r h (λ x. stops (sub t) _ e r g q)
+
+        pub query_second : (a : ℕ) → Answers (Ok a) (end_of (sub t)) → Answers r (end_of (sub a)) → Answers r (end_of (query_at s P R v sub place at))
+        unfolding query_at
+        query_second a i j =
+            goes_on (read_query s R at) _ t r h (λ x. goes_on (sub t) _ a r i (λ y. answers_same r (then_last (sub a) (query place x y)) j))
 
   -- a transaction: n, its list, its body
   module _ (place at : ℕ) where
@@ -121,17 +126,17 @@ module _ (s : List ℕ) (P R v : ℕ) (sub : ℕ → Reading Stmt) where
       unfolding transaction_at end_of
       transaction_many h = rw (byte_there s at _ l) (simp (lt-leb _ _ h))
 
-      module _ (n : byte s at ≤ list_limit) (t : ℕ) (e : told t ≡ end_of (read_many (read_query s R) (byte s at) (at + 1))) where
-        pub transaction_list : place_limit ≤ t → told t ≡ end_of (transaction_at s P R v sub place at)
+      module _ (n : byte s at ≤ list_limit) (r : Result ℕ Refused) where
+        pub transaction_list : (e : Refused) → Answers (Err e) (end_of (read_many (read_query s R) (byte s at) (at + 1))) → IsErrAnd r (λ y. y ≡ e) → Answers r (end_of (transaction_at s P R v sub place at))
         unfolding transaction_at
-        transaction_list h =
-            rw (byte_there s at _ l) (simp (le-leb _ _ n) (then_refused (read_many (read_query s R) (byte s at) (at + 1)) _ e h))
+        transaction_list e h q =
+            rw (byte_there s at _ l) (simp (le-leb _ _ n) (stops (read_many (read_query s R) (byte s at) (at + 1)) _ e r h q))
 
-        pub transaction_body : (r : ℕ) → t < place_limit → told r ≡ end_of (sub t) → told r ≡ end_of (transaction_at s P R v sub place at)
+        pub transaction_body : (t : ℕ) → Answers (Ok t) (end_of (read_many (read_query s R) (byte s at) (at + 1))) → Answers r (end_of (sub t)) → Answers r (end_of (transaction_at s P R v sub place at))
         unfolding transaction_at
-        transaction_body r h g =
+        transaction_body t h g =
             rw (byte_there s at _ l)
-            (simp (le-leb _ _ n) (then_at (read_many (read_query s R) (byte s at) (at + 1)) _ e h (λ qs. g ∙ then_end (sub t) (λ a end. transaction place t end qs a))))
+            (simp (le-leb _ _ n) (goes_on (read_many (read_query s R) (byte s at) (at + 1)) _ t r h (λ qs. answers_same r (then_end (sub t) (λ a end. transaction place t end qs a)) g)))
 
   -- an answer does not keep the place
   assign_same : (at next : ℕ) → end_of (read_assign s v next) ≡ end_of (assign_at s P R v sub at next)
@@ -176,13 +181,13 @@ module _ (s : List ℕ) (P R v : ℕ) (sub : ℕ → Reading Stmt) where
 
 pub ruleset blocks = (block_missing, block_begins, many)
 
-pub ruleset ifs = (if_test, if_first, if_second)
+pub ruleset ifs = (if_test, if_first, if_second, position_low)
 
-pub ruleset whiles = (while_test, while_body)
+pub ruleset whiles = (while_test, while_body, position_low)
 
-pub ruleset queries = (query_atoms, query_first, query_second)
+pub ruleset queries = (query_atoms, query_first, query_second, position_low)
 
-pub ruleset transactions = (transaction_missing, transaction_many, transaction_list, transaction_body, tells)
+pub ruleset transactions = (transaction_missing, transaction_many, transaction_list, transaction_body, position_low, made)
 
 pub stmt_deep : (s : List ℕ) (P R v d at : ℕ) → d ≡ 0 → stopped 14 at ≡ end_of (read_stmt s P R v d at)
 unfolding read_stmt end_of
@@ -210,34 +215,34 @@ module _ (s : List ℕ) (P R v d at : ℕ) (f : d ≡ 0 → ⊥) where
       unfolding coded end_of
       stmt_skip g = rw (here, h, g)
 
-      module _ (r : ℕ) where
-        pub stmt_assign : x ≡ Assign → told r ≡ end_of (read_assign s v (at + 1)) → told r ≡ end_of (read_stmt s P R v d at)
+      module _ (r : Result ℕ Refused) where
+        pub stmt_assign : x ≡ Assign → Answers r (end_of (read_assign s v (at + 1))) → Answers r (end_of (read_stmt s P R v d at))
         unfolding coded
-        stmt_assign g i = rw (here, h, g) (i ∙ assign_same s P R v (read_stmt s P R v (d - 1)) at (at + 1))
+        stmt_assign g i = rw (here, h, g) (answers_same r (assign_same s P R v (read_stmt s P R v (d - 1)) at (at + 1)) i)
 
-        pub stmt_block : x ≡ Block → told r ≡ end_of (block_at s P R v (read_stmt s P R v (d - 1)) (at + 1)) → told r ≡ end_of (read_stmt s P R v d at)
+        pub stmt_block : x ≡ Block → Answers r (end_of (block_at s P R v (read_stmt s P R v (d - 1)) (at + 1))) → Answers r (end_of (read_stmt s P R v d at))
         unfolding coded
         stmt_block g i = rw (here, h, g) i
 
-        pub stmt_if : x ≡ If → told r ≡ end_of (if_at s P R v (read_stmt s P R v (d - 1)) (at + 1)) → told r ≡ end_of (read_stmt s P R v d at)
+        pub stmt_if : x ≡ If → Answers r (end_of (if_at s P R v (read_stmt s P R v (d - 1)) (at + 1))) → Answers r (end_of (read_stmt s P R v d at))
         unfolding coded
         stmt_if g i = rw (here, h, g) i
 
-        pub stmt_while : x ≡ While → told r ≡ end_of (while_at s P R v (read_stmt s P R v (d - 1)) (at + 1)) → told r ≡ end_of (read_stmt s P R v d at)
+        pub stmt_while : x ≡ While → Answers r (end_of (while_at s P R v (read_stmt s P R v (d - 1)) (at + 1))) → Answers r (end_of (read_stmt s P R v d at))
         unfolding coded
         stmt_while g i = rw (here, h, g) i
 
-        pub stmt_query : (place : ℕ) → x ≡ Query → told r ≡ end_of (query_at s P R v (read_stmt s P R v (d - 1)) place (at + 1)) → told r ≡ end_of (read_stmt s P R v d at)
+        pub stmt_query : (place : ℕ) → x ≡ Query → Answers r (end_of (query_at s P R v (read_stmt s P R v (d - 1)) place (at + 1))) → Answers r (end_of (read_stmt s P R v d at))
         unfolding coded
-        stmt_query place g i = rw (here, h, g) (i ∙ query_same s P R v (read_stmt s P R v (d - 1)) at place (at + 1))
+        stmt_query place g i = rw (here, h, g) (answers_same r (query_same s P R v (read_stmt s P R v (d - 1)) at place (at + 1)) i)
 
-        pub stmt_update : x ≡ Update → told r ≡ end_of (read_update s P R (at + 1)) → told r ≡ end_of (read_stmt s P R v d at)
+        pub stmt_update : x ≡ Update → Answers r (end_of (read_update s P R (at + 1))) → Answers r (end_of (read_stmt s P R v d at))
         unfolding coded
-        stmt_update g i = rw (here, h, g) (i ∙ update_same s P R v (read_stmt s P R v (d - 1)) at (at + 1))
+        stmt_update g i = rw (here, h, g) (answers_same r (update_same s P R v (read_stmt s P R v (d - 1)) at (at + 1)) i)
 
-        pub stmt_transaction : (place : ℕ) → x ≡ Transaction → told r ≡ end_of (transaction_at s P R v (read_stmt s P R v (d - 1)) place (at + 1)) → told r ≡ end_of (read_stmt s P R v d at)
+        pub stmt_transaction : (place : ℕ) → x ≡ Transaction → Answers r (end_of (transaction_at s P R v (read_stmt s P R v (d - 1)) place (at + 1))) → Answers r (end_of (read_stmt s P R v d at))
         unfolding coded
-        stmt_transaction place g i = rw (here, h, g) (i ∙ transaction_same s P R v (read_stmt s P R v (d - 1)) at place (at + 1))
+        stmt_transaction place g i = rw (here, h, g) (answers_same r (transaction_same s P R v (read_stmt s P R v (d - 1)) at place (at + 1)) i)
 
 -- a code that is looked for
 module _ (s : List ℕ) (d at code : ℕ) where
@@ -287,17 +292,17 @@ module _ (s : List ℕ) (d at : ℕ) where
       row_passed P R v i r e l few = rw q-is (skips_passed s P R v d (at + 1) (i - 1) r (f h).deep n row (skip_passed P R v i r e l) few)
 
     -- and a branch that is one
-    pub skip_branch : (P R v : ℕ) → length s < place_limit → told (at + 1) ≡ end_of (read_stmt s P R v d at)
+    pub skip_branch : (P R v : ℕ) → length s < place_limit → Answers (Ok (at + 1)) (end_of (read_stmt s P R v d at))
     unfolding FindsCode statement_of
-    skip_branch P R v l = let k = f h in position_told (at + 1) (found_low 0 b f h l) ∙ stmt_skip s P R v d at k.deep k.there (Ok Skip) (rw k.is) Skip refl refl
+    skip_branch P R v l = let k = f h in answer_at (at + 1) _ (found_low 0 b f h l) (stmt_skip s P R v d at k.deep k.there (Ok Skip) (rw k.is) Skip refl refl)
 
   -- a block's assignment and update
-  module _ (P R v r : ℕ) (b : Bool) where
-    pub part_assign : FindsCode s d at 1 b → b ≡ true → told r ≡ end_of (read_assign s v (at + 1)) → told r ≡ end_of (read_stmt s P R v d at)
+  module _ (P R v : ℕ) (r : Result ℕ Refused) (b : Bool) where
+    pub part_assign : FindsCode s d at 1 b → b ≡ true → Answers r (end_of (read_assign s v (at + 1))) → Answers r (end_of (read_stmt s P R v d at))
     unfolding FindsCode statement_of
     part_assign f h e = let k = f h in stmt_assign s P R v d at k.deep k.there (Ok Assign) (rw k.is) Assign refl r refl e
 
-    pub part_update : FindsCode s d at 6 b → b ≡ true → told r ≡ end_of (read_update s P R (at + 1)) → told r ≡ end_of (read_stmt s P R v d at)
+    pub part_update : FindsCode s d at 6 b → b ≡ true → Answers r (end_of (read_update s P R (at + 1))) → Answers r (end_of (read_stmt s P R v d at))
     unfolding FindsCode statement_of
     part_update f h e = let k = f h in stmt_update s P R v d at k.deep k.there (Ok Update) (rw k.is) Update refl r refl e
 
@@ -307,4 +312,4 @@ pub ruleset skips = (found_low, row_low, row_passed)
 
 pub ruleset parts = (found_low, part_assign, part_update)
 
-pub ruleset statements = (stmt_deep, stmt_missing, stmt_unknown, stmt_skip, stmt_assign, stmt_block, stmt_if, stmt_while, stmt_query, stmt_update, stmt_transaction, tells)
+pub ruleset statements = (stmt_deep, stmt_missing, stmt_unknown, stmt_skip, stmt_assign, stmt_block, stmt_if, stmt_while, stmt_query, stmt_update, stmt_transaction, made)

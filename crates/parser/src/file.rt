@@ -2,35 +2,36 @@
 ghost use Rattle.std.specs.Prelude.{◌≡◌, ◌<◌, ◌≤◌, length};
 ghost use Rattle.model.specs.Limits.{role_limit};
 ghost use Rattle.model.specs.Program.{version, program_head, read_mark, read_body, read_program};
-ghost use Rattle.program.specs.Answer.{reached_by, place_limit, told, end_of, read_variables};
+ghost use Rattle.program.specs.Answer.{place_limit, end_of, read_variables};
+ghost use Rattle.program.specs.Refused.{Answers};
 
 use super::body::Body;
-use program::answer::RefusedAt;
 use program::entries::Entry;
+use program::layout;
 use program::reader::Reader;
-use program::{answer, layout};
+use program::refused::Refused;
 use shared::{bytes, limit, number};
 
 // The bytes of a mark at the head: the first that is missing is 10, the first that differs 11.
 #[tactic(auto, using(crate::proofs::FileLaws::marks))]
-fn read_mark(reader: &Reader, mark: &[u8]) -> u64
+fn read_mark(reader: &Reader, mark: &[u8]) -> Result<usize, Refused>
     requires { length mark.now < place_limit }
-    ensures { told result ≡ end_of (read_mark reader.now.program.now mark.now 0) }
+    ensures { Answers result (end_of (read_mark reader.now.program.now mark.now 0)) }
 {
     let same = bytes::matching(reader.program, mark);
     if same == mark.len() {
-        return same as u64;
+        return Ok(same);
     }
     if same < reader.program.len() {
-        return answer::refused(number::PROGRAM_MARK, same);
+        return Err(Refused::new(number::PROGRAM_MARK, same));
     }
-    answer::refused(number::PROGRAM_LENGTH, reader.program.len())
+    Err(Refused::new(number::PROGRAM_LENGTH, reader.program.len()))
 }
 
 // Mark and version at the head: of two fixed byte strings the one of the version that the program states.
 #[tactic(auto, using(crate::proofs::FileLaws::heads))]
-fn read_head(reader: &Reader) -> u64
-    ensures { told result ≡ end_of (read_mark reader.now.program.now (program_head (version reader.now.program.now)) 0) }
+fn read_head(reader: &Reader) -> Result<usize, Refused>
+    ensures { Answers result (end_of (read_mark reader.now.program.now (program_head (version reader.now.program.now)) 0)) }
 {
     if layout::version_of(reader.program) == 2 {
         return read_mark(reader, b"RXP\x02\x00");
@@ -40,64 +41,54 @@ fn read_head(reader: &Reader) -> u64
 
 // One statement, and nothing more.
 #[tactic(auto, using(crate::proofs::FileLaws::bodies))]
-fn read_body(body: &Body, at: usize) -> u64
+fn read_body(body: &Body, at: usize) -> Result<usize, Refused>
     requires { at < place_limit }
-    ensures { told result ≡ end_of (read_body body.now.reader.program.now body.now.reader.principals body.now.reader.roles body.now.variables at) }
+    ensures { Answers result (end_of (read_body body.now.reader.program.now body.now.reader.principals body.now.reader.roles body.now.variables at)) }
 {
-    let last = body.read_stmt(limit::STATEMENT_DEPTH, at);
-    if answer::REFUSED <= last {
-        return last;
-    }
-    let end = last as usize;
+    let end = body.read_stmt(limit::STATEMENT_DEPTH, at)?;
     if end != body.reader.program.len() {
-        return answer::refused(number::PROGRAM_LENGTH, end);
+        return Err(Refused::new(number::PROGRAM_LENGTH, end));
     }
-    last
+    Ok(end)
 }
 
 // V, V pairs of labels, the body.
 #[tactic(auto, using(crate::proofs::FileLaws::variables))]
-fn read_variables(reader: &Reader, at: usize) -> u64
+fn read_variables(reader: &Reader, at: usize) -> Result<usize, Refused>
     requires few { reader.now.roles ≤ role_limit }
     requires low { at < place_limit }
-    ensures { told result ≡ end_of (read_variables reader.now.program.now reader.now.principals reader.now.roles at) }
+    ensures { Answers result (end_of (read_variables reader.now.program.now reader.now.principals reader.now.roles at)) }
 {
     if reader.program.len() <= at {
-        return answer::refused(number::PROGRAM_LENGTH, reader.program.len());
+        return Err(Refused::new(number::PROGRAM_LENGTH, reader.program.len()));
     }
     let variables = reader.program[at];
     if limit::VARIABLES < variables {
-        return answer::refused(number::PROGRAM_RANGE, at);
+        return Err(Refused::new(number::PROGRAM_RANGE, at));
     }
-    let labels = reader.read_entries(Entry::Label, 2 * variables, at + 1);
-    if answer::REFUSED <= labels {
-        return labels;
-    }
+    let labels = reader.read_entries(Entry::Label, 2 * variables, at + 1)?;
     let body = Body {
         reader: *reader,
         variables,
     };
-    read_body(&body, labels as usize)
+    read_body(&body, labels)
 }
 
 // Any bytes as a program under a policy of P principals and R roles, as many as there may be. Over-length comes before the
 // mark.
 #[tactic(auto, using(crate::proofs::FileLaws::programs))]
-pub fn read_program(program: &[u8], principals: u8, roles: u8) -> Result<usize, RefusedAt>
+pub fn read_program(program: &[u8], principals: u8, roles: u8) -> Result<usize, Refused>
     requires { roles ≤ role_limit }
-    ensures { reached_by result ≡ end_of (read_program program.now principals roles) }
+    ensures { Answers result (end_of (read_program program.now principals roles)) }
 {
     if limit::PROGRAM_BYTES < program.len() {
-        return Err(RefusedAt {
-            number: number::PROGRAM_LENGTH,
-            place: limit::PROGRAM_BYTES,
-        });
+        return Err(Refused::new(number::PROGRAM_LENGTH, limit::PROGRAM_BYTES));
     }
     let reader = Reader {
         program,
         principals,
         roles,
     };
-    let head = answer::answer_of(read_head(&reader))?;
-    answer::answer_of(read_variables(&reader, head))
+    let head = read_head(&reader)?;
+    read_variables(&reader, head)
 }

@@ -2,36 +2,38 @@
 // statement after its code, which stands just before `at`; `depth` is then what is left for the statements that it holds.
 ghost use Rattle.std.specs.Prelude.{◌≡◌, ◌<◌};
 ghost use Rattle.parser.specs.Body.{stmt_in, block_in, if_in, while_in, query_in, transaction_in};
-ghost use Rattle.program.specs.Answer.{place_limit, told, end_of, read_assign, read_update, FindsCode};
+ghost use Rattle.program.specs.Answer.{place_limit, end_of, read_assign, read_update, FindsCode};
 ghost use Rattle.program.specs.Codes.{statement_byte};
+ghost use Rattle.program.specs.Refused.{Answers};
 
 use super::body::Body;
 use program::codes::Statement;
 use program::entries::Entry;
-use program::{answer, skips};
+use program::refused::Refused;
+use program::skips;
 use shared::{limit, number};
 
 impl<'a> Body<'a> {
     // Too deep is 14 before the code is read.
     #[cycle(reading)]
     #[tactic(auto, using(crate::proofs::StatementLaws::statements))]
-    pub fn read_stmt(&self, depth: u8, at: usize) -> u64
+    pub fn read_stmt(&self, depth: u8, at: usize) -> Result<usize, Refused>
         requires { at < place_limit }
-        ensures { told result ≡ end_of (stmt_in self.now depth at) }
+        ensures { Answers result (end_of (stmt_in self.now depth at)) }
     {
         if depth == 0 {
-            return answer::refused(number::PROGRAM_DEPTH, at);
+            return Err(Refused::new(number::PROGRAM_DEPTH, at));
         }
         if self.reader.program.len() <= at {
-            return answer::refused(number::PROGRAM_LENGTH, self.reader.program.len());
+            return Err(Refused::new(number::PROGRAM_LENGTH, self.reader.program.len()));
         }
         let next = at + 1;
         let inner = depth - 1;
         let Ok(code) = Statement::try_from(self.reader.program[at]) else {
-            return answer::refused(number::PROGRAM_CODE, at);
+            return Err(Refused::new(number::PROGRAM_CODE, at));
         };
         match code {
-            Statement::Skip => next as u64,
+            Statement::Skip => Ok(next),
             Statement::Assign => self.read_assign(next),
             Statement::Block => self.read_block(inner, next),
             Statement::If => self.read_if(inner, next),
@@ -44,15 +46,12 @@ impl<'a> Body<'a> {
 
     // A variable, an expression.
     #[tactic(auto, using(crate::proofs::StatementLaws::assigns))]
-    fn read_assign(&self, at: usize) -> u64
+    fn read_assign(&self, at: usize) -> Result<usize, Refused>
         requires { at < place_limit }
-        ensures { told result ≡ end_of (read_assign self.now.reader.program.now self.now.variables at) }
+        ensures { Answers result (end_of (read_assign self.now.reader.program.now self.now.variables at)) }
     {
-        let target = self.reader.read_below(self.variables, at);
-        if answer::REFUSED <= target {
-            return target;
-        }
-        self.read_expr(limit::EXPRESSION_DEPTH, target as usize)
+        let target = self.reader.read_below(self.variables, at)?;
+        self.read_expr(limit::EXPRESSION_DEPTH, target)
     }
 
     // Whether a statement's code stands at a position with depth left for it.
@@ -73,9 +72,9 @@ impl<'a> Body<'a> {
     // which kind a statement is costs as much as a small one: blocks of such take a seventh less.
     #[cycle(reading)]
     #[tactic(auto, using(crate::proofs::StatementLaws::parts))]
-    fn read_part(&self, depth: u8, at: usize) -> u64
+    fn read_part(&self, depth: u8, at: usize) -> Result<usize, Refused>
         requires { at < place_limit }
-        ensures { told result ≡ end_of (stmt_in self.now depth at) }
+        ensures { Answers result (end_of (stmt_in self.now depth at)) }
     {
         if self.is_code(depth, at, Statement::Assign) {
             return self.read_assign(at + 1);
@@ -89,12 +88,12 @@ impl<'a> Body<'a> {
     // n, n statements. A skip is passed over here, since a call would cost more than all else of it, and with it those behind it.
     #[cycle(reading)]
     #[tactic(auto, using(crate::proofs::StatementLaws::blocks, crate::proofs::StatementLaws::skips))]
-    fn read_block(&self, depth: u8, at: usize) -> u64
+    fn read_block(&self, depth: u8, at: usize) -> Result<usize, Refused>
         requires { at < place_limit }
-        ensures { told result ≡ end_of (block_in self.now depth at) }
+        ensures { Answers result (end_of (block_in self.now depth at)) }
     {
         if self.reader.program.len() <= at {
-            return answer::refused(number::PROGRAM_LENGTH, self.reader.program.len());
+            return Err(Refused::new(number::PROGRAM_LENGTH, self.reader.program.len()));
         }
         let mut left = self.reader.program[at];
         let mut next = at + 1;
@@ -107,26 +106,22 @@ impl<'a> Body<'a> {
                 next = skips::after(self.reader.program, rest, more);
                 left -= more;
             } else {
-                let one = self.read_part(depth, next);
-                if answer::REFUSED <= one {
-                    return one;
-                }
-                next = one as usize;
+                next = self.read_part(depth, next)?;
                 left -= 1;
             }
         }
-        next as u64
+        Ok(next)
     }
 
     // A branch of an if or a query. It is often a skip, which is passed over here as in a block.
     #[cycle(reading)]
     #[tactic(auto, using(crate::proofs::StatementLaws::skip_branch))]
-    fn read_branch(&self, depth: u8, at: usize) -> u64
+    fn read_branch(&self, depth: u8, at: usize) -> Result<usize, Refused>
         requires { at < place_limit }
-        ensures { told result ≡ end_of (stmt_in self.now depth at) }
+        ensures { Answers result (end_of (stmt_in self.now depth at)) }
     {
         if self.is_code(depth, at, Statement::Skip) {
-            return (at + 1) as u64;
+            return Ok(at + 1);
         }
         self.read_part(depth, at)
     }
@@ -134,68 +129,53 @@ impl<'a> Body<'a> {
     // An expression, two statements.
     #[cycle(reading)]
     #[tactic(auto, using(crate::proofs::StatementLaws::ifs))]
-    fn read_if(&self, depth: u8, at: usize) -> u64
+    fn read_if(&self, depth: u8, at: usize) -> Result<usize, Refused>
         requires { at < place_limit }
-        ensures { told result ≡ end_of (if_in self.now depth at) }
+        ensures { Answers result (end_of (if_in self.now depth at)) }
     {
-        let test = self.read_expr(limit::EXPRESSION_DEPTH, at);
-        if answer::REFUSED <= test {
-            return test;
-        }
-        let taken = self.read_branch(depth, test as usize);
-        if answer::REFUSED <= taken {
-            return taken;
-        }
-        self.read_branch(depth, taken as usize)
+        let test = self.read_expr(limit::EXPRESSION_DEPTH, at)?;
+        let taken = self.read_branch(depth, test)?;
+        self.read_branch(depth, taken)
     }
 
     // An expression, a statement.
     #[cycle(reading)]
     #[tactic(auto, using(crate::proofs::StatementLaws::whiles))]
-    fn read_while(&self, depth: u8, at: usize) -> u64
+    fn read_while(&self, depth: u8, at: usize) -> Result<usize, Refused>
         requires { at < place_limit }
-        ensures { told result ≡ end_of (while_in self.now depth at) }
+        ensures { Answers result (end_of (while_in self.now depth at)) }
     {
-        let test = self.read_expr(limit::EXPRESSION_DEPTH, at);
-        if answer::REFUSED <= test {
-            return test;
-        }
-        self.read_stmt(depth, test as usize)
+        let test = self.read_expr(limit::EXPRESSION_DEPTH, at)?;
+        self.read_stmt(depth, test)
     }
 
     // Two atoms, two statements.
     #[cycle(reading)]
     #[tactic(auto, using(crate::proofs::StatementLaws::queries))]
-    fn read_query(&self, depth: u8, at: usize) -> u64
+    fn read_query(&self, depth: u8, at: usize) -> Result<usize, Refused>
         requires { at < place_limit }
-        ensures { told result ≡ end_of (query_in self.now depth at) }
+        ensures { Answers result (end_of (query_in self.now depth at)) }
     {
-        let query = self.reader.read_query(at);
-        if answer::REFUSED <= query {
-            return query;
-        }
-        let known = self.read_branch(depth, query as usize);
-        if answer::REFUSED <= known {
-            return known;
-        }
-        self.read_branch(depth, known as usize)
+        let query = self.reader.read_query(at)?;
+        let known = self.read_branch(depth, query)?;
+        self.read_branch(depth, known)
     }
 
     // n, n mutations; n is 1 to 16.
     #[tactic(auto, using(crate::proofs::StatementLaws::updates))]
-    fn read_update(&self, at: usize) -> u64
+    fn read_update(&self, at: usize) -> Result<usize, Refused>
         requires { at < place_limit }
-        ensures { told result ≡ end_of (read_update self.now.reader.program.now self.now.reader.principals self.now.reader.roles at) }
+        ensures { Answers result (end_of (read_update self.now.reader.program.now self.now.reader.principals self.now.reader.roles at)) }
     {
         if self.reader.program.len() <= at {
-            return answer::refused(number::PROGRAM_LENGTH, self.reader.program.len());
+            return Err(Refused::new(number::PROGRAM_LENGTH, self.reader.program.len()));
         }
         let n = self.reader.program[at];
         if n == 0 {
-            return answer::refused(number::PROGRAM_RANGE, at);
+            return Err(Refused::new(number::PROGRAM_RANGE, at));
         }
         if limit::LIST < n {
-            return answer::refused(number::PROGRAM_RANGE, at);
+            return Err(Refused::new(number::PROGRAM_RANGE, at));
         }
         self.reader.read_mutations(n, at + 1)
     }
@@ -203,21 +183,18 @@ impl<'a> Body<'a> {
     // n, n atom pairs, a statement; n is 0 to 16.
     #[cycle(reading)]
     #[tactic(auto, using(crate::proofs::StatementLaws::transactions))]
-    fn read_transaction(&self, depth: u8, at: usize) -> u64
+    fn read_transaction(&self, depth: u8, at: usize) -> Result<usize, Refused>
         requires { at < place_limit }
-        ensures { told result ≡ end_of (transaction_in self.now depth at) }
+        ensures { Answers result (end_of (transaction_in self.now depth at)) }
     {
         if self.reader.program.len() <= at {
-            return answer::refused(number::PROGRAM_LENGTH, self.reader.program.len());
+            return Err(Refused::new(number::PROGRAM_LENGTH, self.reader.program.len()));
         }
         let n = self.reader.program[at];
         if limit::LIST < n {
-            return answer::refused(number::PROGRAM_RANGE, at);
+            return Err(Refused::new(number::PROGRAM_RANGE, at));
         }
-        let list = self.reader.read_entries(Entry::Query, n, at + 1);
-        if answer::REFUSED <= list {
-            return list;
-        }
-        self.read_stmt(depth, list as usize)
+        let list = self.reader.read_entries(Entry::Query, n, at + 1)?;
+        self.read_stmt(depth, list)
     }
 }

@@ -1,5 +1,6 @@
 -- A law for each return of atoms.rt: the tests that led there say which case of the definition holds.
 use Rattle.std.proofs.Common.{Result, Ok, Err}
+use Rattle.std.specs.Prelude.{IsErrAnd}
 use mathlib.Core.Path.{◌≡◌, refl, sym, ◌∙◌}
 use Prim.Native.Nat.{ℕ, ◌+◌, ◌-◌, ◌<◌, ◌≤◌}
 use mathlib.Core.List.{List}
@@ -19,11 +20,14 @@ use Rattle.program.specs.declared.codes.Atom.{Atom}
 use Rattle.program.specs.declared.codes.Atom.TheVariants.{Role, Viewers, Trusters, Everyone}
 use Rattle.program.specs.declared.codes.Kind.{Kind}
 use Rattle.program.specs.declared.codes.Kind.TheVariants.{AddMember, DeleteMember, AddTaken, DeleteTaken}
-use Rattle.program.specs.Answer.{reached, stopped, place_limit, told, end_of}
+use Rattle.program.specs.Answer.{reached, stopped, end_of}
+use Rattle.program.specs.Refused.{Answers}
+use Rattle.program.specs.declared.refused.Refused.{Refused}
 use Rattle.program.specs.Entries.{FindsMutation}
 use Rattle.program.specs.Codes.{atom_of, model_atom, role_below, kind_of, model_kind, operand_bound}
 use Rattle.program.proofs.CodeLaws.{through, atom_byte_lem, atom_fits, none_high, none_everyone}
-use Rattle.program.proofs.AnswerLaws.{tells, then_reached, then_at, then_refused, then_last, byte_there, byte_missing}
+use Rattle.program.proofs.AnswerLaws.{then_reached, then_last, byte_there, byte_missing}
+use Rattle.program.proofs.RefusedLaws.{made, position_low, passed, goes_on, stops, answers_same}
 use Rattle.program.specs.declared.codes.UnknownCode.{UnknownCode}
 
 -- a byte below a bound
@@ -44,7 +48,7 @@ module _ (s : List ℕ) (bound at : ℕ) where
   unfolding end_of
   below_small l h = rw (below_read l h)
 
-pub ruleset belows = (below_missing, below_large, below_small, tells)
+pub ruleset belows = (below_missing, below_large, below_small, made)
 
 -- a label: the byte of the atom that was read is a role below R, or everyone's, or neither
 module _ (s : List ℕ) (R at : ℕ) where
@@ -95,7 +99,7 @@ module _ (s : List ℕ) (R at : ℕ) where
             let x : 0xff ≡ byte s at = rw g at here_byte in
             let y : R ≤ byte s at = omega arith in rw (byte_there s at _ l) (simp (le-ltb _ _ y, eq-eqb _ _ (sym x)))
 
-pub ruleset labels = (label_missing, label_none, label_role, label_large, label_viewers, label_trusters, label_everyone, tells)
+pub ruleset labels = (label_missing, label_none, label_role, label_large, label_viewers, label_trusters, label_everyone, made)
 
 -- an atom: the definition goes by what the byte stands for
 named : ℕ → ℕ → ℕ → (Result Atom UnknownCode) → Reading ModelAtom
@@ -132,19 +136,19 @@ module _ (s : List ℕ) (R at : ℕ) where
       unfolding end_of named
       atom_large t = rw (here, h, ← d, t)
 
-pub ruleset atoms = (atom_missing, atom_none, atom_read, atom_large, tells)
+pub ruleset atoms = (atom_missing, atom_none, atom_read, atom_large, made)
 
 -- a query
-module _ (s : List ℕ) (R at a : ℕ) (e : told a ≡ end_of (read_atom s R at)) where
-  pub query_first : place_limit ≤ a → told a ≡ end_of (read_query s R at)
+module _ (s : List ℕ) (R at : ℕ) (r : Result ℕ Refused) where
+  pub query_first : (e : Refused) → Answers (Err e) (end_of (read_atom s R at)) → IsErrAnd r (λ y. y ≡ e) → Answers r (end_of (read_query s R at))
   unfolding read_query
-  query_first h = then_refused (read_atom s R at) _ e h
+  query_first e h q = stops (read_atom s R at) _ e r h q
 
-  pub query_second : (r : ℕ) → a < place_limit → told r ≡ end_of (read_atom s R a) → told r ≡ end_of (read_query s R at)
+  pub query_second : (a : ℕ) → Answers (Ok a) (end_of (read_atom s R at)) → Answers r (end_of (read_atom s R a)) → Answers r (end_of (read_query s R at))
   unfolding read_query
-  query_second r h g = then_at (read_atom s R at) _ e h (λ x. g ∙ then_last (read_atom s R a) _)
+  query_second a h g = goes_on (read_atom s R at) _ a r h (λ x. answers_same r (then_last (read_atom s R a) _) g)
 
-pub ruleset queries = (query_first, query_second)
+pub ruleset queries = (query_first, query_second, position_low)
 
 -- a mutation: the definition goes by its kind
 kinded : List ℕ → ℕ → ℕ → ℕ → ℕ → (Result Kind UnknownCode) → Reading Mutation
@@ -175,17 +179,17 @@ module _ (s : List ℕ) (P R at : ℕ) where
     unfolding end_of kinded
     mutation_unknown h = rw (there, h)
 
-    module _ (m : Kind) (h : k ≡ Ok m) (a : ℕ) (i : told a ≡ end_of (read_below s R (at + 1))) where
-      pub mutation_role : place_limit ≤ a → told a ≡ end_of (read_mutation s P R at)
+    module _ (m : Kind) (h : k ≡ Ok m) (r : Result ℕ Refused) where
+      pub mutation_role : (e : Refused) → Answers (Err e) (end_of (read_below s R (at + 1))) → IsErrAnd r (λ y. y ≡ e) → Answers r (end_of (read_mutation s P R at))
       unfolding kinded mutation_at
-      mutation_role g = rw (there, h) (then_refused (read_below s R (at + 1)) _ i g)
+      mutation_role e i q = rw (there, h) (stops (read_below s R (at + 1)) _ e r i q)
 
-      pub mutation_operand : (n r : ℕ) → a < place_limit → n ≡ operand_bound P R m → told r ≡ end_of (read_below s n a) → told r ≡ end_of (read_mutation s P R at)
+      pub mutation_operand : (a n : ℕ) → Answers (Ok a) (end_of (read_below s R (at + 1))) → n ≡ operand_bound P R m → Answers r (end_of (read_below s n a)) → Answers r (end_of (read_mutation s P R at))
       unfolding kinded mutation_at
-      mutation_operand n r g o j =
-          rw (there, h) (then_at (read_below s R (at + 1)) _ i g (λ x. rw o at j ∙ then_last (read_below s (operand_bound P R m) a) _))
+      mutation_operand a n i o j =
+          rw (there, h) (goes_on (read_below s R (at + 1)) _ a r i (λ x. answers_same r (then_last (read_below s (operand_bound P R m) a) _) (rw o at j)))
 
-pub ruleset mutations = (mutation_missing, mutation_unknown, mutation_role, mutation_operand, tells)
+pub ruleset mutations = (mutation_missing, mutation_unknown, mutation_role, mutation_operand, position_low, made)
 
 -- a mutation that is as it must be
 module _ (s : List ℕ) (P R at : ℕ) where

@@ -1,30 +1,34 @@
--- A law for each return of read_entry: an entry is read as what its name says. The loop over entries goes by the laws of AnswerLaws,
--- and so does the one that looks at mutations.
-use mathlib.Core.Path.{◌≡◌, ◌∙◌}
+-- A law for each return of read_entry: an entry is read as what its name says. The loop over entries goes by the laws of
+-- RefusedLaws.
+use mathlib.Core.Path.{◌≡◌}
 use Prim.Native.Nat.{ℕ, ◌+◌, ◌-◌, ◌*◌, ◌<◌, ◌≤◌}
 use mathlib.Core.List.{List}
 use mathlib.Core.Bool.{Bool, true, false, false≢true}
 use native.Mathlib.Omega.{arith}
 use lib.ListN.{length}
+use Rattle.std.proofs.Common.{Result, Ok}
 use Rattle.model.specs.Limits.{role_limit}
 use Rattle.model.specs.Program.{read_many, read_label, read_query, read_mutation}
 use Rattle.program.specs.declared.entries.Entry.{Entry}
 use Rattle.program.specs.declared.entries.Entry.TheVariants.{Label, Query, Mutation}
-use Rattle.program.specs.Answer.{place_limit, told, end_of}
+use Rattle.program.specs.Answer.{place_limit, end_of}
+use Rattle.program.specs.Refused.{Answers}
+use Rattle.program.specs.declared.refused.Refused.{Refused}
 use Rattle.program.specs.Entries.{Room, read_entry, FindsMutation, FindsMutations}
-use Rattle.program.proofs.AnswerLaws.{position_told, many_done, many_next}
+use Rattle.program.proofs.AnswerLaws.{many_done, many_next}
+use Rattle.program.proofs.RefusedLaws.{answer_at}
 
 pub label_room : (entry : Entry) (R : ℕ) → Room entry R → entry ≡ Label → R ≤ role_limit
 label_room entry R h e = rw e at h
 
-module _ (s : List ℕ) (P R at : ℕ) (entry : Entry) (r : ℕ) where
-  pub entry_label : entry ≡ Label → told r ≡ end_of (read_label s R at) → told r ≡ end_of (read_entry s P R entry at)
+module _ (s : List ℕ) (P R at : ℕ) (entry : Entry) (r : Result ℕ Refused) where
+  pub entry_label : entry ≡ Label → Answers r (end_of (read_label s R at)) → Answers r (end_of (read_entry s P R entry at))
   entry_label e h = rw e h
 
-  pub entry_query : entry ≡ Query → told r ≡ end_of (read_query s R at) → told r ≡ end_of (read_entry s P R entry at)
+  pub entry_query : entry ≡ Query → Answers r (end_of (read_query s R at)) → Answers r (end_of (read_entry s P R entry at))
   entry_query e h = rw e h
 
-  pub entry_mutation : entry ≡ Mutation → told r ≡ end_of (read_mutation s P R at) → told r ≡ end_of (read_entry s P R entry at)
+  pub entry_mutation : entry ≡ Mutation → Answers r (end_of (read_mutation s P R at)) → Answers r (end_of (read_entry s P R entry at))
   entry_mutation e h = rw e h
 
 pub ruleset entries = (label_room, entry_label, entry_query, entry_mutation)
@@ -58,8 +62,8 @@ module _ (s : List ℕ) (P R n at : ℕ) where
         let k : i ≡ n = omega arith in
         record { inside = rw (← e) l; read = rw k at (many_done (read_mutation s P R) (n - i) (at + 3 * i) _ f (omega arith)) }
 
-  pub mutations_found : (r : Bool) (m : ℕ) → length s < place_limit → FindsMutations s P R n at r → r ≡ true → m ≡ n → told (at + 3 * m) ≡ end_of (read_many (read_mutation s P R) n at)
+  pub mutations_found : (r : Bool) (m : ℕ) → length s < place_limit → FindsMutations s P R n at r → r ≡ true → m ≡ n → Answers (Ok (at + 3 * m)) (end_of (read_many (read_mutation s P R) n at))
   unfolding FindsMutations
-  mutations_found r m short f h e = let u = f h in rw e (position_told (at + 3 * n) (omega (arith, u.inside)) ∙ u.read)
+  mutations_found r m short f h e = let u = f h in rw e (answer_at (at + 3 * n) _ (omega (arith, u.inside)) u.read)
 
 pub ruleset findings = (finding_starts, finding_fails, finding_goes_on, finding_ends, mutations_found)

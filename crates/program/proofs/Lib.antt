@@ -1,5 +1,6 @@
 pub mod CodeLaws
 pub mod AnswerLaws
+pub mod RefusedLaws
 pub mod AtomLaws
 mod EntryLaws
 mod LayoutLaws

@@ -1,34 +1,24 @@
--- What an answer of the code says, and what the model's readings say in the same words.
-use Rattle.std.specs.Prelude.{◌≡◌, ℕ, suc, ◌+◌, ◌*◌, ◌/◌, ◌%◌, ◌<◌, List, Bool, true, cond, ltb, leb, length, Result, Ok, Err}
+-- What an answer of the code may say, and what the model's readings say in the same words.
+use Rattle.std.specs.Prelude.{◌≡◌, ℕ, suc, ◌+◌, ◌*◌, ◌%◌, ◌<◌, List, Bool, true, cond, ltb, leb, length}
 use Rattle.model.specs.Limits.{variable_limit, expression_depth, list_limit}
 use Rattle.model.specs.Number.{program_range}
 use Rattle.model.specs.Bytes.{byte}
 use Rattle.model.specs.Mutation.{Mutation}
 use Rattle.model.specs.Syntax.{Expr, Stmt}
 use Rattle.model.specs.Program.{Read as Reading, got, bad, and_then, read_byte, read_below, read_many, read_label, read_mutation, read_expr, read_body}
-use Rattle.program.specs.declared.answer.RefusedAt.{RefusedAt}
 
 -- how far reading or checking came: to a position, or to document 01's number at the place that shows it
 pub data Reached : Type 0 where
   reached : (position : ℕ) → Reached
   stopped : (number place : ℕ) → Reached
 
--- what an answer says
-abbrev pub reached_by : Result ℕ RefusedAt → Reached
-reached_by (Ok position) = reached position
-reached_by (Err r) = stopped r.number r.place
-
--- below this a word is a position, and every place is below it
+-- every position in a program, and its end, is below this
 abbrev pub place_limit : ℕ
 place_limit = 4294967296
 
 -- a refusal in one word: the number from bit 32 on, the place below
 unfoldable pub refusal : ℕ → ℕ → ℕ
 refusal number place = number * place_limit + place % place_limit
-
--- what a word says
-unfoldable pub told : ℕ → Reached
-told w = cond (ltb w place_limit) (reached w) (stopped (w / place_limit) (w % place_limit))
 
 -- how far a reading of the model came; the tree is not kept
 unfoldable pub end_of : {A : Type 0} → Reading A → Reached

@@ -1,11 +1,12 @@
 // The lists of a program: so many labels, queries or mutations, one after the other.
 ghost use Rattle.std.specs.Prelude.{◌≡◌, ◌<◌};
 ghost use Rattle.model.specs.Program.{read_many, read_mutation};
-ghost use Rattle.program.specs.Answer.{place_limit, told, end_of};
+ghost use Rattle.program.specs.Answer.{place_limit, end_of};
 ghost use Rattle.program.specs.Entries.{Room, read_entry, FindsMutations};
+ghost use Rattle.program.specs.Refused.{Answers};
 
-use super::answer;
 use super::reader::Reader;
+use super::refused::Refused;
 
 pub const MUTATION_BYTES: usize = 3;
 
@@ -21,10 +22,10 @@ pub enum Entry {
 impl<'a> Reader<'a> {
     // One entry.
     #[tactic(auto, using(crate::proofs::EntryLaws::entries))]
-    fn read_entry(&self, entry: Entry, at: usize) -> u64
+    fn read_entry(&self, entry: Entry, at: usize) -> Result<usize, Refused>
         requires room { Room entry self.now.roles }
         requires low { at < place_limit }
-        ensures { told result ≡ end_of (read_entry self.now.program.now self.now.principals self.now.roles entry at) }
+        ensures { Answers result (end_of (read_entry self.now.program.now self.now.principals self.now.roles entry at)) }
     {
         match entry {
             Entry::Label => self.read_label(at),
@@ -34,21 +35,17 @@ impl<'a> Reader<'a> {
     }
 
     // n entries.
-    #[tactic(auto, using(crate::proofs::AnswerLaws::counts))]
-    pub fn read_entries(&self, entry: Entry, n: u8, at: usize) -> u64
+    #[tactic(auto, using(crate::proofs::RefusedLaws::counts))]
+    pub fn read_entries(&self, entry: Entry, n: u8, at: usize) -> Result<usize, Refused>
         requires room { Room entry self.now.roles }
         requires low { at < place_limit }
-        ensures { told result ≡ end_of (read_many (read_entry self.now.program.now self.now.principals self.now.roles entry) n at) }
+        ensures { Answers result (end_of (read_many (read_entry self.now.program.now self.now.principals self.now.roles entry) n at)) }
     {
         let mut next = at;
         for _ in 0..n {
-            let one = self.read_entry(entry, next);
-            if answer::REFUSED <= one {
-                return one;
-            }
-            next = one as usize;
+            next = self.read_entry(entry, next)?;
         }
-        next as u64
+        Ok(next)
     }
 
     // Whether n mutations stand at `at` within the bytes, each as it must be.
@@ -71,12 +68,12 @@ impl<'a> Reader<'a> {
     // n mutations. Most lists are as they must be, and finding that out takes half the time of reading entry by entry, since
     // whether they lie within the bytes is asked once. Any other is read entry by entry, for the first byte that shows a number.
     #[tactic(auto, using(crate::proofs::EntryLaws::mutations_found))]
-    pub fn read_mutations(&self, n: u8, at: usize) -> u64
+    pub fn read_mutations(&self, n: u8, at: usize) -> Result<usize, Refused>
         requires { at < place_limit }
-        ensures { told result ≡ end_of (read_many (read_mutation self.now.program.now self.now.principals self.now.roles) n at) }
+        ensures { Answers result (end_of (read_many (read_mutation self.now.program.now self.now.principals self.now.roles) n at)) }
     {
         if self.are_mutations(n, at) {
-            return (at + MUTATION_BYTES * usize::from(n)) as u64;
+            return Ok(at + MUTATION_BYTES * usize::from(n));
         }
         self.read_entries(Entry::Mutation, n, at)
     }

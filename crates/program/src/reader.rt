@@ -8,6 +8,6 @@ pub struct Reader<'a> {
     pub program: &'a [u8],
     pub principals: u8,
     pub roles: u8,
-    // A word can tell every position in it, and its end.
+    // Every position in it, and its end, is a place that a refusal can show.
     ghost short: { length program.now < place_limit },
 }

@@ -1,5 +1,5 @@
--- Where what the code carries stands for what the rules speak of at a statement: what a test of it asks for, which positions a word
--- can tell, what stands in another context, and which transaction is around it.
+-- Where what the code carries stands for what the rules speak of at a statement: what a test of it asks for, which places a refusal
+-- can keep, what stands in another context, and which transaction is around it.
 use mathlib.Core.Path.{◌≡◌, refl, sym, subst}
 use Prim.Native.Nat.{ℕ, ◌<◌, ◌≤◌}
 use native.Mathlib.Omega.{arith}
@@ -12,11 +12,13 @@ use Rattle.model.specs.Program.{got, variables, read_expr}
 use Rattle.model.specs.Fits.{ExprFits}
 use Rattle.model.specs.Flow.{Around as Surroundings, outside, inside, expr_label}
 use Rattle.model.proofs.Accepted.{accepted_facts}
-use Rattle.model.proofs.Reading.{stmt_within}
 use Rattle.model.proofs.Standing.{stmt_there}
 use Rattle.order.specs.Table.{Table}
-use Rattle.program.specs.Answer.{stopped, place_limit, refusal, told}
-use Rattle.program.proofs.AnswerLaws.{refusal_kept}
+use Rattle.std.proofs.Common.{Err}
+use Rattle.program.specs.declared.refused.Refused.{Refused}
+use Rattle.program.specs.Answer.{stopped, place_limit, refusal}
+use Rattle.program.specs.Refused.{tells}
+use Rattle.program.proofs.RefusedLaws.{number_kept, place_kept}
 use Rattle.gathered.specs.Words.{expr_roles}
 use Rattle.gathered.specs.declared.labels.Labels.{Labels}
 use Rattle.gathered.specs.Labels.{LabelsBelow, LabelsAt}
@@ -29,9 +31,9 @@ use Rattle.context.specs.Judge.{Asked}
 use Rattle.rules.specs.Check.{Inside, Outside, AroundIs, Free, Stands, StmtAt, JoinedAt}
 use Rattle.context.proofs.ContextLaws.{context_expr}
 
--- a refusal as a word
-pub stopped_told : (w k place : ℕ) → w ≡ refusal k place → 0 < k → place < place_limit → told w ≡ stopped k place
-stopped_told w k place e some l = rw e (refusal_kept k place some l)
+-- a refusal tells its number and its place
+pub stopped_tells : (r : Refused) (k place : ℕ) → r.word ≡ refusal k place → place < place_limit → tells (Err r) ≡ stopped k place
+stopped_tells r k place e l = rw (number_kept r k place e, place_kept r k place e l) refl
 
 -- what stands for what, kept up
 module _ {s p : List ℕ} {t : Table} {c : Carried} {around : Surroundings} {known : List Query} {C : Side → List Atom} (st : Stands s p t c around known C) where
@@ -41,12 +43,9 @@ module _ {s p : List ℕ} {t : Table} {c : Carried} {around : Surroundings} {kno
   pub roles_few : roles s ≤ role_limit
   roles_few = (accepted_facts s st.is_accepted).roles_fit
 
-  -- a word tells where a statement stands and where it ends
+  -- a refusal keeps where a statement stands
   pub low_start : (d at : ℕ) {x : Stmt} {end : ℕ} → StmtAt s p d at x end → at < place_limit
   low_start d at h = omega (arith, st.short, stmt_there p (principals s) (roles s) (variables p) d at h)
-
-  pub low_end : (d at : ℕ) {x : Stmt} {end : ℕ} → StmtAt s p d at x end → end < place_limit
-  low_end d at h = omega (arith, st.short, (stmt_within p (principals s) (roles s) (variables p) d at h).1)
 
   -- in another context
   pub stands_context : (l : Context) {K : Side → List Atom} → ContextIs (roles s) l K → (Free s p around known C → Free s p around known K)

@@ -1,6 +1,6 @@
 -- What the check of a statement answers: the flow rules' verdict of the tree that stands at a position, and where it ends. What
 -- entering a transaction writes: what stands for it.
-use Rattle.std.specs.Prelude.{◌≡◌, ℕ, ◌+◌, ◌*◌, ◌<◌, ◌≤◌, Bool, true, false, cond, eqb, length}
+use Rattle.std.specs.Prelude.{◌≡◌, ℕ, ◌+◌, ◌*◌, ◌<◌, ◌≤◌, Bool, true, false, cond, eqb, length, Result, Ok, Err}
 use mathlib.Core.List.{List, Memᴰ}
 use Rattle.model.specs.Number.{Verdict, fine, refused}
 use Rattle.model.specs.Limits.{variable_limit, role_limit, expression_depth}
@@ -14,7 +14,9 @@ use Rattle.model.specs.Order.{AtMost}
 use Rattle.model.specs.Flow.{Around as Surroundings, outside, inside, under_expr, update_join, assigned, mutated, flow}
 use Rattle.model.proofs.FlowParts.{Subset}
 use Rattle.order.specs.Table.{Table, Knows, list_roles}
-use Rattle.program.specs.Answer.{Reached, reached, stopped, place_limit, refusal, told}
+use Rattle.program.specs.declared.refused.Refused.{Refused}
+use Rattle.program.specs.Answer.{Reached, reached, stopped, place_limit, refusal}
+use Rattle.program.specs.Refused.{tells}
 use Rattle.gathered.specs.Words.{expr_roles}
 use Rattle.gathered.specs.declared.labels.Labels.{Labels}
 use Rattle.gathered.specs.Labels.{LabelsBelow, all_below, LabelsAt}
@@ -35,9 +37,9 @@ checked_to (refused k place) end = stopped k place
 unfoldable pub numbered : ℕ → ℕ → ℕ → Reached
 numbered k place end = cond (eqb k 0) (reached end) (stopped k place)
 
--- the same as a word
-unfoldable pub numbered_word : ℕ → ℕ → ℕ → ℕ
-numbered_word k place end = cond (eqb k 0) end (refusal k place)
+-- the same as an answer
+unfoldable pub numbered_answer : ℕ → ℕ → ℕ → Result ℕ Refused
+numbered_answer k place end = cond (eqb k 0) (Ok end) (Err (record { word = refusal k place }))
 
 -- the code's transaction stands for one with these listed queries, variables and roles, under a policy of R roles and in a
 -- program of vars variables
@@ -115,11 +117,11 @@ abbrev pub StmtFits : List ℕ → List ℕ → Surroundings → Stmt → Type 0
 StmtFits s p around x = Fits (principals s) (roles s) (variables p) x × Writes around x
 
 -- r is the answer on the statement that stands at a position
-unfoldable pub CheckedAt : List ℕ → List ℕ → Table → Carried → ℕ → ℕ → ℕ → Type 0
+unfoldable pub CheckedAt : List ℕ → List ℕ → Table → Carried → ℕ → ℕ → Result ℕ Refused → Type 0
 CheckedAt s p t c depth at r =
     (around : Surroundings) (known : List Query) (C : Side → List Atom) (x : Stmt) (end : ℕ)
     → Stands s p t c around known C → StmtAt s p depth at x end → StmtFits s p around x
-    → told r ≡ checked_to (flow s p around known C x) end
+    → tells r ≡ checked_to (flow s p around known C x) end
 
 -- r is where the expression that stands at a position ends, and its labels are joined to the context b
 pub record JoinedAt (p : List ℕ) (at : ℕ) (b a : Context) (r : ℕ) : Type 0 where
@@ -127,10 +129,10 @@ pub record JoinedAt (p : List ℕ) (at : ℕ) (b a : Context) (r : ℕ) : Type 0
   pub same : a.asked ≡ b.asked
 
 -- r is the answer on an assignment, under any policy and in any transaction, and of an update, by any table
-unfoldable pub AssignAt : List ℕ → Table → Context → ℕ → ℕ → Type 0
+unfoldable pub AssignAt : List ℕ → Table → Context → ℕ → Result ℕ Refused → Type 0
 AssignAt p t l at r = (s : List ℕ) (c : Carried) (depth : ℕ) → c.context ≡ l → byte p at ≡ 1 → CheckedAt s p t c depth at r
 
-unfoldable pub UpdateAt : List ℕ → List ℕ → Carried → ℕ → ℕ → Type 0
+unfoldable pub UpdateAt : List ℕ → List ℕ → Carried → ℕ → Result ℕ Refused → Type 0
 UpdateAt s p c at r = (t : Table) (depth : ℕ) → byte p at ≡ 6 → CheckedAt s p t c depth at r
 
 -- where a transaction's body starts: its count stands after the code, then its queries

@@ -5,25 +5,25 @@ ghost use Rattle.std.specs.Prelude.{◌≡◌};
 ghost use Rattle.model.specs.Policy.{Accepted};
 ghost use Rattle.context.specs.declared.around.Around.TheVariants.{Inside};
 ghost use Rattle.context.specs.Context.{carried};
-ghost use Rattle.rules.specs.Check.{numbered_word, JoinedAt, AssignAt, UpdateAt};
+ghost use Rattle.rules.specs.Check.{numbered_answer, JoinedAt, AssignAt, UpdateAt};
 
 use context::around::{Around, Context, Transaction};
 use context::files::Files;
 use context::{judge, lists};
 use gathered::{labels, positions};
 use order::table::Table;
-use program::answer;
+use program::refused::Refused;
 use shared::{bytes, limit, number};
 
-// The word of a number at a place, on a statement that ends at a position.
-#[tactic(auto, using(crate::proofs::SimpleLaws::answers))]
-fn numbered(number: u32, at: usize, next: usize) -> u64
-    ensures { result ≡ numbered_word number at next }
+// The answer of a number at a place, on a statement that ends at a position.
+#[tactic(auto, unfolding(crate::specs::Check::numbered_answer))]
+fn numbered(number: u32, at: usize, next: usize) -> Result<usize, Refused>
+    ensures { result ≡ numbered_answer number at next }
 {
     if number == number::ACCEPTED {
-        return next as u64;
+        return Ok(next);
     }
-    answer::refused(number, at)
+    Err(Refused::new(number, at))
 }
 
 // Joins the labels of the expression at `at` to the context, and returns where it ends.
@@ -35,7 +35,12 @@ pub fn join_labels(program: &&[u8], at: usize, context: &mut Context) -> usize
 
 // Context and expression label are at most the variable's label.
 #[tactic(auto, using(crate::proofs::SimpleLaws::assign_checked))]
-pub fn check_assign(program: &&[u8], table: &Table, context: &Context, at: usize) -> u64
+pub fn check_assign(
+    program: &&[u8],
+    table: &Table,
+    context: &Context,
+    at: usize,
+) -> Result<usize, Refused>
     ensures { AssignAt program.now.now table.now context.now at result }
 {
     let target = bytes::byte_at(*program, positions::ahead(*program, at, 1));
@@ -48,7 +53,12 @@ pub fn check_assign(program: &&[u8], table: &Table, context: &Context, at: usize
 // An update in a transaction adds only what the policy file allows. The context joined with the labels of all listed queries
 // is at most all that the transaction writes.
 #[tactic(auto, using(crate::proofs::SimpleLaws::updates))]
-fn check_granted(files: &Files, transaction: &Transaction, context: &Context, at: usize) -> u64
+fn check_granted(
+    files: &Files,
+    transaction: &Transaction,
+    context: &Context,
+    at: usize,
+) -> Result<usize, Refused>
     requires { Accepted files.now.policy.now }
     ensures { UpdateAt files.now.policy.now files.now.program.now (carried (Inside transaction.now) context.now) at result }
 {
@@ -68,17 +78,22 @@ fn check_granted(files: &Files, transaction: &Transaction, context: &Context, at
             positions::after_list(files.program, at, positions::MUTATION_BYTES),
         );
     }
-    answer::refused(number::FLOW_GRANT, at)
+    Err(Refused::new(number::FLOW_GRANT, at))
 }
 
 // Only in a transaction.
 #[tactic(auto, using(crate::proofs::SimpleLaws::updates))]
-pub fn check_update(files: &Files, around: &Around, context: &Context, at: usize) -> u64
+pub fn check_update(
+    files: &Files,
+    around: &Around,
+    context: &Context,
+    at: usize,
+) -> Result<usize, Refused>
     requires { Accepted files.now.policy.now }
     ensures { UpdateAt files.now.policy.now files.now.program.now (carried around.now context.now) at result }
 {
     match around {
         Around::Inside(transaction) => check_granted(files, transaction, context, at),
-        Around::Outside(_) => answer::refused(number::FLOW_TRANSACTION, at),
+        Around::Outside(_) => Err(Refused::new(number::FLOW_TRANSACTION, at)),
     }
 }

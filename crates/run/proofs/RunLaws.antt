@@ -15,7 +15,7 @@ use Rattle.model.specs.Run.{refusal, run}
 use Rattle.model.specs.Calls.{ended, end_of, run_answer}
 use Rattle.model.proofs.FlowParts.{accepted_program}
 use Rattle.std.specs.Prelude.{⊤, Result, Ok, Err}
-use Rattle.program.specs.declared.answer.RefusedAt.{RefusedAt}
+use Rattle.program.specs.declared.refused.Refused.{Refused}
 use Rattle.verdict.specs.Verdict.{verdict_of}
 use Rattle.execution.specs.declared.execute.Answer.{Answer}
 use Rattle.execution.specs.Execution.{Admitted}
@@ -38,8 +38,8 @@ module _ (s p m : List ℕ) (fuel : ℕ) where
   refusal_ends k r e f = rw (e, f) refl
 
 module _ (s p m : List ℕ) (fuel : ℕ) (r : Answer) where
-  pub refused_verdict : (e : RefusedAt) (v : Result ⊤ RefusedAt) → verdict_of v ≡ program_verdict s p → v ≡ Err e → r ≡ record { number = e.number; units = 0 } → ended r.number r.units s m ≡ run_answer s p m fuel
-  refused_verdict k v h e f = refusal_ends s p m fuel k.number r f (verdict_refuses s p m fuel (sym h ∙ ap verdict_of e))
+  pub refused_verdict : (n place k : ℕ) → refused n place ≡ program_verdict s p → k ≡ n → r ≡ record { number = k; units = 0 } → ended r.number r.units s m ≡ run_answer s p m fuel
+  refused_verdict n place k h e f = refusal_ends s p m fuel k r f (verdict_refuses s p m fuel (sym h ∙ ap (λ (i : ℕ). refused i place) (sym e)))
 
   module _ (fair : program_verdict s p ≡ fine) where
     pub refused_memory : (vars b : ℕ) → vars ≡ b → b ≡ variables p → (length m ≡ 4 * vars → ⊥) → r ≡ record { number = 20; units = 0 } → ended r.number r.units s m ≡ run_answer s p m fuel
@@ -62,7 +62,7 @@ module _ (s p m : List ℕ) (fuel : ℕ) (r : Answer) where
             vars_are = e ∙ f;
           }
 
-pub fine_verdict : (s p : List ℕ) (v : Result ⊤ RefusedAt) → verdict_of v ≡ program_verdict s p → v ≡ Ok tt → program_verdict s p ≡ fine
+pub fine_verdict : (s p : List ℕ) (v : Result ⊤ Refused) → verdict_of v ≡ program_verdict s p → v ≡ Ok tt → program_verdict s p ≡ fine
 fine_verdict s p v h e = sym h ∙ ap verdict_of e
 
 pub ruleset refusals = (fine_verdict, refused_verdict, refused_memory, refused_none, refused_over, admits)

@@ -17,6 +17,7 @@ fn refusal(number: u32) -> Answer
 }
 
 // An accepted program under an accepted policy: the memory's length, then the fuel, then the run.
+#[tactic(auto, using(crate::proofs::RunLaws::refusals))]
 fn run_accepted(policy: &mut [u8], program: &[u8], memory: &mut [u8], fuel: u32) -> Answer
     requires { program_verdict policy.old program.now ≡ fine }
     ensures { ended result.number result.units policy.new memory.new ≡ run_answer policy.old program.now memory.old fuel }
@@ -40,6 +41,6 @@ pub fn run(policy: &mut [u8], program: &[u8], memory: &mut [u8], fuel: u32) -> A
 {
     match verdict::verdict::program_verdict(policy, program) {
         Ok(()) => run_accepted(policy, program, memory, fuel),
-        Err(refused) => refusal(refused.number),
+        Err(refused) => refusal(refused.number()),
     }
 }

@@ -38,16 +38,18 @@ pub fn rx_meaning(policy: &[u8], role: u32, bits: &mut u32) -> u32
 }
 
 // The number of a program under a policy: 1 to 6 of the policy, else 10 to 18 of the program, else 0.
+#[tactic(auto, using(crate::proofs::Laws::answers))]
 pub fn rx_program(policy: &[u8], program: &[u8]) -> u32
     ensures { result ≡ number_of (program_verdict policy.now program.now) }
 {
     match verdict::verdict::program_verdict(policy, program) {
         Ok(()) => number::ACCEPTED,
-        Err(refused) => refused.number,
+        Err(refused) => refused.number(),
     }
 }
 
 // The same number, and in `place` where it shows, 0 for 0 and for the policy's numbers.
+#[tactic(auto, using(crate::proofs::Laws::answers))]
 pub fn rx_place(policy: &[u8], program: &[u8], place: &mut usize) -> u32
     ensures { located result place.new ≡ place_answer policy.now program.now }
 {
@@ -57,14 +59,15 @@ pub fn rx_place(policy: &[u8], program: &[u8], place: &mut usize) -> u32
             number::ACCEPTED
         }
         Err(refused) => {
-            *place = refused.place;
-            refused.number
+            *place = refused.place();
+            refused.number()
         }
     }
 }
 
 // The same number, and where the body of transaction k starts in the program and how long it is; 0 and 0 where there is
 // none or a file is refused.
+#[tactic(auto, using(crate::proofs::Laws::answers))]
 pub fn rx_transaction(
     policy: &[u8],
     program: &[u8],
@@ -84,7 +87,7 @@ pub fn rx_transaction(
         Err(refused) => {
             *start = 0;
             *length = 0;
-            refused.number
+            refused.number()
         }
     }
 }

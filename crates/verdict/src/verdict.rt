@@ -14,13 +14,13 @@ use gathered::labels::Labels;
 use order::table;
 use order::table::Row;
 use policy::rows;
-use program::answer::RefusedAt;
-use program::{answer, layout};
+use program::layout;
+use program::refused::Refused;
 use shared::{limit, number};
 
 // The flow rules on a program that was read: no transaction around it, nothing known, empty contexts.
 #[tactic(auto, using(crate::proofs::VerdictLaws::bodies))]
-fn body_verdict(policy: &[u8], program: &[u8]) -> Result<(), RefusedAt>
+fn body_verdict(policy: &[u8], program: &[u8]) -> Result<(), Refused>
     requires { Accepted policy.now }
     ensures { BodyVerdict policy.now program.now result }
 {
@@ -38,25 +38,20 @@ fn body_verdict(policy: &[u8], program: &[u8]) -> Result<(), RefusedAt>
         asked: 0,
     };
     let start = layout::body_at(variables);
-    let checked = check::check_stmt(
+    check::check_stmt(
         &Files { policy, program },
         &table,
         &Around::Outside(all),
         &context,
         limit::STATEMENT_DEPTH,
         start,
-    );
-    if checked < answer::REFUSED {
-        return Ok(());
-    }
-    Err(RefusedAt {
-        number: answer::number_of(checked),
-        place: answer::place_of(checked),
-    })
+    )?;
+    Ok(())
 }
 
 // The program is read, then checked.
-fn read_verdict(policy: &[u8], program: &[u8]) -> Result<(), RefusedAt>
+#[tactic(auto, using(crate::proofs::VerdictLaws::reads))]
+fn read_verdict(policy: &[u8], program: &[u8]) -> Result<(), Refused>
     requires { Accepted policy.now }
     ensures { verdict_of result ≡ body_verdict policy.now program.now (read_program program.now (principals policy.now) (roles policy.now)) }
 {
@@ -66,12 +61,12 @@ fn read_verdict(policy: &[u8], program: &[u8]) -> Result<(), RefusedAt>
 
 // Nothing against the program; or document 01's number and the place in the program that shows it, 0 for the policy's.
 #[tactic(auto, using(crate::proofs::VerdictLaws::policies))]
-pub fn program_verdict(policy: &[u8], program: &[u8]) -> Result<(), RefusedAt>
+pub fn program_verdict(policy: &[u8], program: &[u8]) -> Result<(), Refused>
     ensures { verdict_of result ≡ program_verdict policy.now program.now }
 {
     let number = policy::check::policy_number(policy);
     if number == number::ACCEPTED {
         return read_verdict(policy, program);
     }
-    Err(RefusedAt { number, place: 0 })
+    Err(Refused::new(number, 0))
 }

@@ -1,7 +1,7 @@
 -- A statement calls what it holds with one less of depth, and that calls branches, a block's statements and statements with what
 -- it was given: four times the depth, one more for a block's statement, two for a branch and three for any other part, falls at
--- every call. A block's loop keeps that reading what is left comes to what reading all comes to, and that a word can tell where
--- it stands.
+-- every call. A block's loop keeps that reading what is left comes to what reading all comes to, and that another reading may
+-- begin where it stands.
 use Rattle.std.proofs.Common.{◌≡◌, ◌+◌, ◌*◌, ◌<◌}
 use Rattle.model.specs.Program.{read_many, read_stmt, block_at}
 use Rattle.program.specs.Answer.{place_limit, end_of}

@@ -1,5 +1,5 @@
--- The loop keeps this: reading what is left from where it stands comes to what reading all from the start comes to, and a word
--- can tell where it stands.
+-- The loop keeps this: reading what is left from where it stands comes to what reading all from the start comes to, and another
+-- reading may begin there.
 use Rattle.std.proofs.Common.{◌≡◌, ◌<◌, ◌-◌}
 use Rattle.model.specs.Program.{read_many}
 use Rattle.program.specs.Answer.{end_of}
