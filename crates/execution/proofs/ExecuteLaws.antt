@@ -1,7 +1,7 @@
 -- A law for each return of execute.rt: what the loop gives, written into the caller's buffers, is what the run rules give.
 use Prim.Native.Nat.{ℕ, ◌-◌, ◌*◌, ◌≤◌}
 use native.Mathlib.Omega.{arith}
-use mathlib.Core.Path.{◌≡◌, refl, sym, ap, ◌∙◌}
+use mathlib.Core.Path.{◌≡◌, refl, ap, ◌∙◌}
 use mathlib.Core.List.{List}
 use lib.ListN.{length, take, replicate}
 use Rattle.model.specs.Limits.{variable_limit}
@@ -21,8 +21,8 @@ use Rattle.machine.proofs.Running.{represents_kept}
 
 -- loading
 module _ (s p m : List ℕ) (vars : ℕ) (code words working index : List ℕ) (h : Loadable s p m vars code words working index) where
-  pub load_copy : length working ≡ length s
-  load_copy = sym h.same_length
+  pub load_copy : length s ≡ length working
+  load_copy = h.same_length
 
   pub load_accepted : (t : List ℕ) → t ≡ s → Accepted t
   load_accepted t e = rw e (accepted_program s p h.verdict).policy
@@ -67,8 +67,8 @@ module _ (s m t w : List ℕ) (vars fuel : ℕ) (stop : Result ℕ Spent) where
     pub finish_left : (left : ℕ) → stop ≡ Ok left → left ≤ fuel
     finish_left left e = rw e at h.within
 
-    pub finish_policy : length s ≡ length t
-    finish_policy = sym h.same_length
+    pub finish_policy : length t ≡ length s
+    finish_policy = h.same_length
 
     pub finish_memory : length m ≡ 4 * vars
     finish_memory = h.memory_fits

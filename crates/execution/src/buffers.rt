@@ -4,7 +4,7 @@ ghost use Rattle.model.specs.Calls.{ended, run_answer};
 ghost use Rattle.execution.specs.Execution.{Admitted};
 
 use super::execute;
-use super::execute::{Answer, Buffers};
+use super::execute::Answer;
 use code::words;
 use shared::limit;
 use tracked::{atoms, index};
@@ -45,20 +45,21 @@ fn run_within<const NODES: usize, const WORDS: usize, const POLICY: usize>(
 {
     let n = policy.len();
     let mut copy = [0u8; POLICY];
-    let mut buffers: Buffers<NODES, WORDS> = Buffers {
-        code: [0; NODES],
-        words: [0; WORDS],
-        sets: [0; atoms::WORDS],
-        index: [0; index::WORDS],
-    };
+    let mut code = [0u16; NODES];
+    let mut words = [0u32; WORDS];
+    let mut sets = [0u32; atoms::WORDS];
+    let mut index = [0u64; index::WORDS];
     execute::run_in(
         policy,
         program,
         memory,
         vars,
         fuel,
+        &mut code,
+        &mut words,
         &mut copy[..n],
-        &mut buffers,
+        &mut sets,
+        &mut index,
     )
 }
 

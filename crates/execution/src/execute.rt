@@ -22,33 +22,26 @@ pub struct Answer {
     pub units: u32,
 }
 
-// What a run works on beside the caller's buffers and a copy of the policy: nodes of code, words of the values and of what the
-// code refers to, and what is tracked of the policy.
-#[derive(Drop)]
-pub struct Buffers<const NODES: usize, const WORDS: usize> {
-    pub code: [u16; NODES],
-    pub words: [u32; WORDS],
-    pub sets: [u32; atoms::WORDS],
-    pub index: [u64; index::WORDS],
-}
-
 // Fills what the run works on beside the caller's buffers: a copy of the policy with what is tracked of it, the code, the
 // values of the variables. The node where the run starts.
-fn load<const NODES: usize, const WORDS: usize>(
+fn load(
     policy: &[u8],
     program: &[u8],
     memory: &[u8],
     vars: usize,
+    code: &mut [u16],
+    words: &mut [u32],
     working: &mut [u8],
-    buffers: &mut Buffers<NODES, WORDS>,
+    sets: &mut [u32; atoms::WORDS],
+    index: &mut [u64; index::WORDS],
 ) -> usize
-    requires { Loadable policy.now program.now memory.now vars buffers.old.code buffers.old.words working.old buffers.old.index }
-    ensures { Loaded policy.now program.now memory.now vars buffers.new.code buffers.new.words working.new buffers.new.sets buffers.new.index result }
+    requires { Loadable policy.now program.now memory.now vars code.old words.old working.old index.old }
+    ensures { Loaded policy.now program.now memory.now vars code.new words.new working.new sets.new index.new result }
 {
-    working.copy_from_slice(policy);
-    change::track(working, &mut buffers.sets, &mut buffers.index);
-    let start = compile::compile::compile(program, &mut buffers.code, &mut buffers.words);
-    memory::load(memory, &mut buffers.words, vars);
+    memory::copy_bytes(policy, working);
+    change::track(working, sets, index);
+    let start = compile::compile::compile(program, code, words);
+    memory::load(memory, words, vars);
     start
 }
 
@@ -67,7 +60,7 @@ fn finish(
 {
     match stop {
         Ok(left) => {
-            policy.copy_from_slice(working);
+            memory::copy_bytes(working, policy);
             memory::store(memory, words, vars);
             Answer {
                 number: number::ACCEPTED,
@@ -82,45 +75,48 @@ fn finish(
 }
 
 // The run itself, in buffers beside the caller's: how it stops. `working` and the first of `words` are left as it leaves them.
-fn execute<const NODES: usize, const WORDS: usize>(
+// Kept: the buffers are lent side by side and not in a struct of arrays, whose sizes each caller would have to have as constants.
+fn execute(
     policy: &[u8],
     program: &[u8],
     memory: &[u8],
     vars: usize,
     fuel: u32,
+    code: &mut [u16],
+    words: &mut [u32],
     working: &mut [u8],
-    buffers: &mut Buffers<NODES, WORDS>,
+    sets: &mut [u32; atoms::WORDS],
+    index: &mut [u64; index::WORDS],
 ) -> Result<u32, Spent>
-    requires { (Admitted policy.now program.now memory.now vars fuel) × Loadable policy.now program.now memory.now vars buffers.old.code buffers.old.words working.old buffers.old.index }
-    ensures { Executed policy.now program.now memory.now vars fuel result working.new buffers.new.words }
+    requires { (Admitted policy.now program.now memory.now vars fuel) × Loadable policy.now program.now memory.now vars code.old words.old working.old index.old }
+    ensures { Executed policy.now program.now memory.now vars fuel result working.new words.new }
 {
-    let start = load(policy, program, memory, vars, working, buffers);
+    let start = load(
+        policy, program, memory, vars, code, words, working, sets, index,
+    );
     steps::steps(
-        program,
-        &buffers.code,
-        &mut buffers.words,
-        working,
-        &mut buffers.sets,
-        &mut buffers.index,
-        vars,
-        start,
-        fuel,
+        program, code, words, working, sets, index, vars, start, fuel,
     )
 }
 
 // The same, and its end in the caller's buffers.
-pub fn run_in<const NODES: usize, const WORDS: usize>(
+pub fn run_in(
     policy: &mut [u8],
     program: &[u8],
     memory: &mut [u8],
     vars: usize,
     fuel: u32,
+    code: &mut [u16],
+    words: &mut [u32],
     working: &mut [u8],
-    buffers: &mut Buffers<NODES, WORDS>,
+    sets: &mut [u32; atoms::WORDS],
+    index: &mut [u64; index::WORDS],
 ) -> Answer
-    requires { (Admitted policy.old program.now memory.old vars fuel) × Loadable policy.old program.now memory.old vars buffers.old.code buffers.old.words working.old buffers.old.index }
+    requires { (Admitted policy.old program.now memory.old vars fuel) × Loadable policy.old program.now memory.old vars code.old words.old working.old index.old }
     ensures { ended result.number result.units policy.new memory.new ≡ run_answer policy.old program.now memory.old fuel }
 {
-    let stop = execute(policy, program, memory, vars, fuel, working, buffers);
-    finish(policy, memory, working, &buffers.words, vars, fuel, stop)
+    let stop = execute(
+        policy, program, memory, vars, fuel, code, words, working, sets, index,
+    );
+    finish(policy, memory, working, words, vars, fuel, stop)
 }

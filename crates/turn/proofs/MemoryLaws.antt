@@ -1,8 +1,8 @@
 -- A law for each return and each turn of memory.rt: what was written has its values, what comes behind is as it was.
-use Prim.Native.Nat.{ℕ, ◌+◌, ◌*◌, ◌<◌, ◌≤◌}
+use Prim.Native.Nat.{ℕ, zero, suc, ◌+◌, ◌*◌, ◌<◌, ◌≤◌}
 use native.Mathlib.Omega.{arith}
 use native.Mathlib.Numerals.{add-one}
-use mathlib.Core.Path.{◌≡◌, refl, ap, ◌∙◌}
+use mathlib.Core.Path.{◌≡◌, refl, sym, ap, ◌∙◌}
 use mathlib.Core.List.{List, [], ◌∷◌, ◌++◌}
 use mir.Val.{Fits}
 use mir.Syntax.{w8, w32}
@@ -57,6 +57,42 @@ pub load_done : (m w u : List ℕ) (i n : ℕ) → Filled (value_at m) i w u →
 load_done m w u i n h a b e low = rw (filled_front (value_at m) w u i n h a b) (memory_words m n e (λ j l. let f = low j in omega arith))
 
 pub ruleset loads = (filled_none, filled_more, filled_kept, filled_length, load_value, load_inside, load_done)
+
+-- the bytes of another buffer
+column_take : (w : List ℕ) (n : ℕ) → n ≤ length w → take n w ≡ column (λ i. get_or w i 0) n
+unfolding column
+column_take w zero l = refl
+column_take w (suc n) l = take_suc w n (omega arith) ∙ ap (λ (y : List ℕ). y ++ (get_or w n 0 ∷ [])) (column_take w n (omega arith))
+  where
+    take_suc : (w : List ℕ) (n : ℕ) → n < length w → take (suc n) w ≡ take n w ++ (get_or w n 0 ∷ [])
+    take_suc [] n l = absurd (omega arith)
+    take_suc (x ∷ w) zero l = refl
+    take_suc (x ∷ w) (suc n) l = ap (λ (y : List ℕ). x ∷ y) (take_suc w n (omega arith))
+
+pub copy_done : (from w u : List ℕ) (i n : ℕ) → Filled (λ i. get_or from i 0) i w u → i ≤ n → n ≤ i → n ≤ length from → take n u ≡ take n from
+copy_done from w u i n h a b l = filled_front (λ i. get_or from i 0) w u i n h a b ∙ sym (column_take from n l)
+
+take_all : (w : List ℕ) → take (length w) w ≡ w
+take_all [] = refl
+take_all (x ∷ w) = ap (λ (y : List ℕ). x ∷ y) (take_all w)
+
+-- all of them
+pub copy_all : (from w u : List ℕ) (i : ℕ) → Filled (λ i. get_or from i 0) i w u → i ≤ length w → length w ≤ i → length from ≡ length w → u ≡ from
+copy_all from w u i h a b e =
+    let m = h.same_length in
+    let l : i ≡ length u = omega arith in
+    let k : i ≡ length from = omega arith in
+    let x : take i u ≡ u = rw l (take_all u) in
+    let y : take i from ≡ from = rw k (take_all from) in
+    sym x ∙ copy_done from w u i i h (omega arith) (omega arith) (omega arith) ∙ y
+
+pub copy_inside : (f : ℕ → ℕ) (from w u : List ℕ) (i : ℕ) → Filled f i w u → i < length u → length from ≡ length w → i < length from
+copy_inside f from w u i h l e = let m = h.same_length in omega arith
+
+pub copy_more : (f : ℕ → ℕ) (i x : ℕ) (w u : List ℕ) → Filled f i w u → i < length u → x ≡ f i → Filled f (i + 1) w (set u i x)
+copy_more f i x w u h l e = let m = h.same_length in let k : length w ≤ length w = omega arith in filled_more f i (length w) x w u h (omega arith) k e
+
+pub ruleset copies = (copy_all, copy_inside, copy_more, filled_none, filled_more, filled_kept, filled_length, copy_done)
 
 -- the values as a memory's bytes
 pub store_done : (w to u : List ℕ) (i n : ℕ) → u ≡ stored w to i → i ≤ n → n ≤ i → n ≤ length w → length to ≡ 4 * n → ((k : ℕ) → Fits w32 (get_or w k 0)) → u ≡ memory_of (take n w)

@@ -1,4 +1,4 @@
-// The values of a memory as words, and back; words from one buffer to another.
+// The values of a memory as words, and back; words and bytes from one buffer to another.
 ghost use Rattle.std.specs.Prelude.{◌≡◌, ◌*◌, ◌<◌, ◌≤◌, length, take};
 ghost use Rattle.model.specs.Memory.{memory_of};
 ghost use Rattle.turn.specs.Memory.{Kept};
@@ -34,4 +34,15 @@ pub fn copy_words(from: &[u32], to: &mut [u32], n: usize)
     ensures kept { Kept n to.old to.new }
 {
     to[..n].copy_from_slice(&from[..n]);
+}
+
+// All bytes of another buffer of the same length. Kept a loop: the library's `copy_from_slice` asks the caller for a `memmove`,
+// which the exports did not need.
+pub fn copy_bytes(from: &[u8], to: &mut [u8])
+    requires { length from.now ≡ length to.old }
+    ensures { to.new ≡ from.now }
+{
+    for i in 0..to.len() {
+        to[i] = from[i];
+    }
 }

@@ -3,4 +3,4 @@ use Rattle.execution.proofs.ExecuteLaws.{executing}
 use Rattle.execution.proofs.execute.execute.Goals as goal
 
 pub returns : goal.returns
-returns g c = search (rules, executing)
+returns c = search (rules, executing)

@@ -3,10 +3,10 @@ use Rattle.execution.proofs.ExecuteLaws.{loading}
 use Rattle.execution.proofs.execute.load.Goals as goal
 
 pub track-requires : goal.track-requires
-track-requires g c = search (rules, loading)
+track-requires c = search (rules, loading)
 
 pub load-requires : goal.load-requires
-load-requires g c = search (rules, loading)
+load-requires c = search (rules, loading)
 
 pub returns : goal.returns
-returns g c = search (rules, loading)
+returns c = search (rules, loading)
