@@ -96,19 +96,19 @@ impl<'a> Reader<'a> {
         let role = self.read_below(self.roles, at + 1)?;
         self.read_below(kind.operand_bound(self.principals, self.roles), role)
     }
+}
 
-    // Whether the three bytes at `at` are a mutation: kind, role, operand.
-    #[tactic(auto, using(crate::proofs::AtomLaws::founds))]
-    pub fn is_mutation(&self, at: usize) -> bool
-        requires { at + 3 ≤ length self.now.program.now }
-        ensures { FindsMutation self.now.program.now self.now.principals self.now.roles at result }
-    {
-        if self.roles <= self.program[at + 1] {
-            return false;
-        }
-        match Kind::try_from(self.program[at]) {
-            Ok(kind) => self.program[at + 2] < kind.operand_bound(self.principals, self.roles),
-            Err(_) => false,
-        }
+// Whether the three bytes at `at` are a mutation: kind, role, operand. Of a program of any length, so no method of `Reader`.
+#[tactic(auto, using(crate::proofs::AtomLaws::founds))]
+pub fn is_mutation(program: &[u8], principals: u8, roles: u8, at: usize) -> bool
+    requires { at + 3 ≤ length program.now }
+    ensures { FindsMutation program.now principals roles at result }
+{
+    if roles <= program[at + 1] {
+        return false;
+    }
+    match Kind::try_from(program[at]) {
+        Ok(kind) => program[at + 2] < kind.operand_bound(principals, roles),
+        Err(_) => false,
     }
 }

@@ -5,6 +5,7 @@ ghost use Rattle.program.specs.Answer.{place_limit, end_of};
 ghost use Rattle.program.specs.Entries.{Room, read_entry, FindsMutations};
 ghost use Rattle.program.specs.Refused.{Answers};
 
+use super::atoms;
 use super::reader::Reader;
 use super::refused::Refused;
 
@@ -58,7 +59,8 @@ impl<'a> Reader<'a> {
             return false;
         }
         for i in 0..n {
-            if !self.is_mutation(at + MUTATION_BYTES * usize::from(i)) {
+            let here = at + MUTATION_BYTES * usize::from(i);
+            if !atoms::is_mutation(self.program, self.principals, self.roles, here) {
                 return false;
             }
         }

@@ -2,20 +2,19 @@
 use mathlib.Core.Path.{◌≡◌, refl, sym, ◌∙◌}
 use Prim.Native.Nat.{ℕ, zero, suc, ◌+◌, ◌-◌, ◌/◌, ◌%◌, ◌^◌, ◌<◌, ◌≤◌}
 use mathlib.Core.List.{List, [], ◌∷◌}
-use Rattle.std.specs.List.{take_while, prefix_len, zip, starts_with as begins}
-use native.Mathlib.Decide.{ℕ_discrete}
-use Rattle.std.proofs.lemmas.List.Folds.{length-prefix_len}
 use Rattle.std.proofs.Common.{ap, zero-add, slice_range, lit<, get_or-take, get_or-drop}
 use Rattle.std.specs.Int.{w32, w64, sum_through, byte_worth, bytes_low_first, from_le_bytes}
 use Rattle.std.proofs.Math.Seq.{paste, paste-suc}
 use Rattle.std.proofs.lemmas.List.Edits.{paste_none}
 use Rattle.std.proofs.lemmas.Slice.{put_mid-paste}
 use borrow.Rule.Slice.PartMut.{put_mid}
-use mathlib.Core.Bool.{Bool, false, cond, ◌&&◌}
+use mathlib.Core.Bool.{Bool, true, false, cond}
 use native.Mathlib.Omega.{arith}
 use native.Mathlib.Nat.{add-zero, div-one}
-use lib.Dec.{eqb}
-use lib.ListN.{length, get_or, get_or-eq_default, drop}
+use native.Mathlib.Numerals.{add-one}
+use lib.Dec.{eqb, eqb-zero-suc, eqb-suc-suc}
+use lib.ListN.{length, get_or, get_or-eq_default, drop, drop_of_length-le}
+use lib.Seq.{drop-cons}
 use borrow.Author.Tests.{eq-eqb, ne_eqb}
 use Rattle.model.specs.Bytes.{byte, word, put, starts_with}
 use Rattle.shared.specs.Marks.{matching}
@@ -65,28 +64,40 @@ pub put_of : (s : List ℕ) (at n v : ℕ) (part bytes : List ℕ) → at + n �
 put_of s at n v part bytes room e p =
     put_mid-paste at (at + n - at) s part (bytes_low_first 0 n v) n (p ∙ e) (omega arith) (sym (length_low v 0 n)) ∙ sym (put_copies s at v n room n (omega arith))
 
--- how many bytes match, one by one
-pairs_matching : (s m : List ℕ) → prefix_len (λ p. eqb p.0 p.1) (zip s m) ≡ matching s m
-unfolding matching
-pairs_matching [] [] = refl
-pairs_matching (x ∷ s) [] = refl
-pairs_matching [] (y ∷ m) = refl
-pairs_matching (x ∷ s) (y ∷ m) = let e = pairs_matching s m in let n : 1 + matching s m ≡ suc (matching s m) = omega arith in rw (e, n)
+-- what of a mark is still to be compared from position i on
+module _ (s m : List ℕ) (r i : ℕ) (e : i + matching (drop i s) (drop i m) ≡ r) where
+  pub mark_done : length m ≤ i → i ≡ r
+  unfolding matching
+  mark_done h = sym (add-zero i) ∙ (rw (drop_of_length-le m {i = i} h) at e)
 
-pub mark_prefix : (s m : List ℕ) (k : ℕ) → k ≡ length (take_while (λ p. eqb p.0 p.1) (zip s m)) → k ≡ matching s m
-mark_prefix s m k e = e ∙ length-prefix_len (λ p. eqb p.0 p.1) (zip s m) ∙ pairs_matching s m
+  module _ (g : i < length m) where
+    pub mark_short : length s ≤ i → i ≡ r
+    unfolding matching
+    mark_short h = sym (add-zero i) ∙ (rw (drop_of_length-le s {i = i} h, drop-cons m i 0 g) at e)
 
--- the library's test for a mark
-whole_mark : (s m : List ℕ) → begins eqb s m ≡ starts_with s m
-unfolding starts_with
-whole_mark [] [] = refl
-whole_mark (x ∷ s) [] = refl
-whole_mark [] (y ∷ m) = refl
-whole_mark (x ∷ s) (y ∷ m) = rw (whole_mark s m) (go (ℕ_discrete x y))
+    module _ (h : i < length s) where
+      pub mark_other : (get_or s i 0 ≡ get_or m i 0 → ⊥) → i ≡ r
+      unfolding matching
+      mark_other n = sym (add-zero i) ∙ (simp (drop-cons s i 0 h, drop-cons m i 0 g, ne_eqb _ _ n) at e)
+
+      pub mark_same : get_or s i 0 ≡ get_or m i 0 → i + 1 + matching (drop (i + 1) s) (drop (i + 1) m) ≡ r
+      unfolding matching
+      mark_same n =
+          let k : i + suc (matching (drop (suc i) s) (drop (suc i) m)) ≡ r = simp (drop-cons s i 0 h, drop-cons m i 0 g, eq-eqb _ _ n) at e in
+          rw (add-one i) (omega arith)
+
+pub ruleset marks = (mark_short, mark_other, mark_same, mark_done)
+
+-- bytes begin with a mark when they match all of it
+all_matching : (s m : List ℕ) → eqb (matching s m) (length m) ≡ starts_with s m
+unfolding matching starts_with
+all_matching s [] = refl
+all_matching [] (y ∷ m) = eqb-zero-suc (length m)
+all_matching (x ∷ s) (y ∷ m) = go (eqb x y) (all_matching s m)
   where
-    go : Dec (x ≡ y) → (eqb y x && starts_with s m) ≡ cond (eqb x y) (starts_with s m) false
-    go (yes e) = rw (eq-eqb x y e, eq-eqb y x (sym e))
-    go (no k) = rw (ne_eqb x y k, ne_eqb y x (λ e. k (sym e)))
+    go : (b : Bool) → eqb (matching s m) (length m) ≡ starts_with s m → eqb (cond b (suc (matching s m)) 0) (suc (length m)) ≡ cond b (starts_with s m) false
+    go true e = eqb-suc-suc (matching s m) (length m) ∙ e
+    go false e = eqb-zero-suc (length m)
 
-pub mark_whole : (s m : List ℕ) (b : Bool) → b ≡ begins eqb s m → b ≡ starts_with s m
-mark_whole s m b e = e ∙ whole_mark s m
+pub mark_whole : (s m : List ℕ) (k : ℕ) → k ≡ matching s m → eqb k (length m) ≡ starts_with s m
+mark_whole s m k e = rw e (all_matching s m)

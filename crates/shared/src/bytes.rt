@@ -55,10 +55,19 @@ pub fn put64(s: &mut [u8], at: usize, v: u64)
 }
 
 // How many bytes of a mark the bytes begin with.
+#[tactic(auto, using(crate::proofs::ByteLaws::marks))]
 pub fn matching(s: &[u8], mark: &[u8]) -> usize
     ensures { result ≡ matching s.now mark.now }
 {
-    s.iter().zip(mark).take_while(|(a, b)| a == b).count()
+    for i in 0..mark.len() {
+        if s.len() <= i {
+            return i;
+        }
+        if s[i] != mark[i] {
+            return i;
+        }
+    }
+    mark.len()
 }
 
 // Whether the bytes begin with those of a mark.
@@ -66,5 +75,5 @@ pub fn matching(s: &[u8], mark: &[u8]) -> usize
 pub fn starts_with(s: &[u8], mark: &[u8]) -> bool
     ensures { result ≡ starts_with s.now mark.now }
 {
-    s.starts_with(mark)
+    matching(s, mark) == mark.len()
 }
