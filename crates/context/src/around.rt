@@ -29,7 +29,7 @@ pub struct Meets {
 #[derive(Clone, Copy)]
 pub struct Transaction {
     pub list: usize,
-    pub count: u8,
+    pub count: u64,
     pub named: u64,
     pub variables: u64,
     pub roles: u64,

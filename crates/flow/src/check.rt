@@ -212,8 +212,7 @@ fn check_query(
     };
     let inner = depth - 1;
     let query = positions::ahead(files.program, at, 1);
-    let count = u64::from(transaction.count);
-    if lists::is_listed(files.program, count, transaction.list, query) {
+    if lists::is_listed(files.program, transaction.count, transaction.list, query) {
         let asked = lists::query_roles(files.program, query) | context.asked;
         let joined = Context { asked, ..*context };
         let start = positions::ahead(files.program, at, 3);

@@ -44,7 +44,7 @@ pub fn enter(
     let number = judge::held_number(&flows, &meets);
     *inside = Around::Inside(Transaction {
         list,
-        count,
+        count: u64::from(count),
         named,
         variables: written.variables,
         roles: written.roles,
