@@ -7,7 +7,10 @@ use mathlib.Core.List.{List}
 use mathlib.Core.Bool.{Bool, true, false}
 use native.Mathlib.Omega.{arith}
 use native.Mathlib.Decide.{ℕ_discrete}
+use mir.Val.{Fits}
+use mir.Syntax.{w32}
 use lib.Dec.{eqb}
+use lib.Pow.{pow-lt}
 use lib.Bits.{bit_and, bit_or, bit_xor}
 use lib.Count.{count_trailing_zeros}
 use lib.ListN.{length, get_or, set, length-set}
@@ -28,7 +31,7 @@ use Rattle.shared.proofs.SetLaws.{single_is, next_without, fewer}
 use Rattle.tracked.specs.Live.{atom_words, Live}
 use Rattle.tracked.specs.Index.{holders_at, moved_at, known_at, rewired_at, index_words, current, before, Indexed, Untouched, placed, Few, Sifted, Fresh, Column, Upward, Reaching, Known, Learnt, Tracked}
 use Rattle.settling.specs.Settle.{Settling, Settled, Spread}
-use Rattle.tracked.proofs.IndexLaws.{count_is, placed_same, placed_other, transposed_kept, known_kept, none_upward, one_upward}
+use Rattle.tracked.proofs.IndexLaws.{count_is, placed_same, placed_other, placed_both, placed_off, power_below, transposed_kept, known_kept, none_upward, one_upward}
 use Rattle.tracked.proofs.KeepLaws.{untouched_now}
 use Rattle.tracked.proofs.TrackedLaws.{few_roles, taker_there, column_means, tracked_live, fresh_sifted}
 use Rattle.tracked.proofs.AtomLaws.{behind}
@@ -90,6 +93,25 @@ pub single_reaching : (f : ℕ → ℕ) (j x one : ℕ) → x ≡ single j → R
 single_reaching f j x one e h = rw e at h
 
 pub ruleset reachings = (all_known, none_upward, first_upward, learnt_nothing, single_reaching)
+
+-- a set with or without a principal
+module _ (here : Bool) (old p x : ℕ) (l : p < principal_limit) (e : x ≡ single p) where
+  bit_is : x ≡ 2 ^ p
+  bit_is = e ∙ single_is p (omega arith)
+
+  pub bit_fits : Fits w32 x
+  bit_fits = record { fits = rw bit_is (pow-lt l) }
+
+  pub bit_below : x ≤ bit_or old x
+  bit_below = rw bit_is (power_below old p)
+
+  pub bit_both : here ≡ true → bit_or old x ≡ placed here old p
+  bit_both h = rw bit_is (placed_both old p here h)
+
+  pub bit_off : here ≡ false → bit_or old x - x ≡ placed here old p
+  bit_off h = rw bit_is (placed_off old p here h)
+
+pub ruleset placeds = (bit_fits, bit_below, bit_both, bit_off)
 
 pub place_so : (w : List ℕ) (i x p v : ℕ) (here : Bool) → x ≡ get_or w i 0 → v ≡ placed here x p → set w i v ≡ set w i (placed here (get_or w i 0) p)
 place_so w i x p v here e f = rw (f, e) refl
