@@ -6,7 +6,8 @@
    Threads: no call keeps anything between calls, so any number of threads may call at once, also on the same policy and
    program; a policy and a memory that rx_run is given are for that call alone. Stack: a thread that calls rx_policy or
    rx_meaning needs 32 KiB, one that calls rx_program, rx_place or rx_transaction 128 KiB, one that calls rx_run 192 KiB
-   (measured on the deepest programs: 95 KB, and 146 KB for rx_run). */
+   (measured on the deepest programs: 95 KB, and 146 KB for rx_run); where programs may nest more than 20 queries in second
+   branches, 192 KiB, and 256 KiB for rx_run (160 KB, and 213 KB, where 30 are nested so). */
 #ifndef RX_H
 #define RX_H
 

@@ -1,6 +1,7 @@
 //! The library as C and C++ see it: `caller.c` is compiled against `include/rx.h` and linked with the
 //! proved library alone.
 
+use std::collections::BTreeSet;
 use std::path::Path;
 use std::process::{Command, Output};
 
@@ -13,6 +14,18 @@ fn a_c_program_gets_the_documents_answers() {
 #[test]
 fn a_cpp_program_gets_the_documents_answers() {
     assert_gets_answers("c++", &["-std=c++11", "-x", "c++"], "caller-cpp");
+}
+
+/// A caller without a C library has these two to bring.
+#[test]
+fn the_library_needs_two_functions_from_outside() {
+    let archive = Path::new(env!("CARGO_MANIFEST_DIR")).join("../target/staticlib/librx.a");
+    let output = Command::new("nm").arg("-u").arg(archive).output().expect("nm comes with cc");
+    assert!(output.status.success(), "{}", text(&output));
+    let listed = text(&output);
+    let names: BTreeSet<&str> =
+        listed.lines().filter_map(|line| line.trim().strip_prefix("U ")).collect();
+    assert_eq!(names, BTreeSet::from(["memcpy", "memset"]));
 }
 
 /// Compiles the caller without a warning, links and runs it.

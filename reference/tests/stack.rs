@@ -14,6 +14,9 @@ use reference::run::call::MOST_FUEL;
 const RUN_STACK: usize = 192 * 1024;
 const PROGRAM_STACK: usize = 128 * 1024;
 const POLICY_STACK: usize = 32 * 1024;
+/// The same of programs whose queries are nested in second branches, where none is known in the next.
+const DEEP_RUN_STACK: usize = 256 * 1024;
+const DEEP_PROGRAM_STACK: usize = 192 * 1024;
 
 /// 64 roles of which none is at most another, so that 16 queries between them are all new.
 fn policy() -> Vec<u8> {
@@ -87,6 +90,16 @@ fn nested_queries(different: bool, inner: &[u8]) -> Vec<u8> {
     bytes
 }
 
+/// A transaction that lists one query, asked 30 times, each time in the second branch of the one before,
+/// and a statement at depth 32.
+fn second_branches(inner: &[u8]) -> Vec<u8> {
+    let mut bytes = head();
+    bytes.extend([0x07, 1, 0, 1]);
+    bytes.extend([0x05, 0, 1, 0x00].repeat(30));
+    bytes.extend(inner);
+    bytes
+}
+
 /// 31 of a statement nested, by its bytes before and after what it holds, around the assignment.
 fn nested(before: &[u8], after: &[u8]) -> Vec<u8> {
     let mut bytes = head();
@@ -149,6 +162,23 @@ fn runs() {
         for program in in_both_versions(&program) {
             assert_eq!(within(RUN_STACK, &program, run), (0, units), "{what}");
         }
+    }
+}
+
+/// The query holds, so that a run takes the first branch, which is a skip.
+#[test]
+fn queries_in_second_branches() {
+    for program in in_both_versions(&second_branches(&assignment())) {
+        let verdict = within(DEEP_PROGRAM_STACK, &program, proved_program::verdict);
+        assert_eq!(verdict, (0, 0));
+        let first = |policy: &[u8], program: &[u8]| proved_program::transaction(policy, program, 0);
+        let body = (14, 30 * 4 + 49);
+        assert_eq!(within(DEEP_PROGRAM_STACK, &program, first), (0, body));
+        let run = |policy: &[u8], program: &[u8]| {
+            let (mut policy, mut memory) = (policy.to_vec(), [1, 0, 0, 0, 0, 0, 0, 0]);
+            proved_program::run(&mut policy, program, &mut memory, MOST_FUEL)
+        };
+        assert_eq!(within(DEEP_RUN_STACK, &program, run), (0, 1 + 1 + 1));
     }
 }
 

@@ -32,7 +32,8 @@
 //! ```
 //!
 //! Any number of threads may call at once. A thread needs 32 KiB of stack for [`policy()`] and
-//! [`meaning()`], 192 KiB for [`run()`], 128 KiB for the others.
+//! [`meaning()`], 192 KiB for [`run()`], 128 KiB for the others; where programs may nest more than 20
+//! queries in second branches, 256 KiB and 192 KiB.
 
 #![no_std]
 #![deny(missing_docs, unsafe_code, unsafe_op_in_unsafe_fn)]

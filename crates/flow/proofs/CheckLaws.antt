@@ -26,7 +26,7 @@ use Rattle.model.proofs.Standing.{many_none, many_more, stmt_deep, stmt_there, s
 use Rattle.model.proofs.FlowParts.{Subset}
 use Rattle.program.specs.declared.codes.Statement.{Statement}
 use Rattle.program.specs.declared.codes.Statement.TheVariants.{Skip, Assign, Block, If, While, Query, Update, Transaction}
-use Rattle.program.specs.Answer.{Reached, reached, stopped, refusal}
+use Rattle.program.specs.Answer.{reached, stopped, refusal}
 use Rattle.program.specs.declared.refused.Refused.{Refused}
 use Rattle.program.specs.Refused.{tells}
 use Rattle.program.specs.Codes.{statement_of, statement_byte}

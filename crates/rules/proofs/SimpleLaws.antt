@@ -17,7 +17,7 @@ use Rattle.model.specs.Program.{variables}
 use Rattle.model.specs.Flow.{inside, expr_label, list_label, roles_of, mutated, all_allowed, may_assign, may_update, flow}
 use Rattle.model.proofs.Sets.{in_none, has_with_same}
 use Rattle.model.proofs.Standing.{many_more, mutations_end, assign_parts, update_parts}
-use Rattle.std.proofs.Common.{Result, Ok, Err}
+use Rattle.std.proofs.Common.{Result, Err}
 use Rattle.program.specs.declared.refused.Refused.{Refused}
 use Rattle.program.specs.Answer.{reached, stopped, place_limit, refusal}
 use Rattle.program.specs.Refused.{tells}

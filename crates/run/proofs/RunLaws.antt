@@ -14,7 +14,7 @@ use Rattle.model.specs.Flow.{program_verdict}
 use Rattle.model.specs.Run.{refusal, run}
 use Rattle.model.specs.Calls.{ended, end_of, run_answer}
 use Rattle.model.proofs.FlowParts.{accepted_program}
-use Rattle.std.specs.Prelude.{⊤, Result, Ok, Err}
+use Rattle.std.specs.Prelude.{⊤, Result, Ok}
 use Rattle.program.specs.declared.refused.Refused.{Refused}
 use Rattle.verdict.specs.Verdict.{verdict_of}
 use Rattle.execution.specs.declared.execute.Answer.{Answer}

@@ -92,7 +92,7 @@ copy_inside f from w u i h l e = let m = h.same_length in omega arith
 pub copy_more : (f : ℕ → ℕ) (i x : ℕ) (w u : List ℕ) → Filled f i w u → i < length u → x ≡ f i → Filled f (i + 1) w (set u i x)
 copy_more f i x w u h l e = let m = h.same_length in let k : length w ≤ length w = omega arith in filled_more f i (length w) x w u h (omega arith) k e
 
-pub ruleset copies = (copy_all, copy_inside, copy_more, filled_none, filled_more, filled_kept, filled_length, copy_done)
+pub ruleset copies = (copy_all, copy_inside, copy_more, filled_none)
 
 -- the values as a memory's bytes
 pub store_done : (w to u : List ℕ) (i n : ℕ) → u ≡ stored w to i → i ≤ n → n ≤ i → n ≤ length w → length to ≡ 4 * n → ((k : ℕ) → Fits w32 (get_or w k 0)) → u ≡ memory_of (take n w)

@@ -36,8 +36,8 @@ pub fn copy_words(from: &[u32], to: &mut [u32], n: usize)
     to[..n].copy_from_slice(&from[..n]);
 }
 
-// All bytes of another buffer of the same length. Kept a loop: the library's `copy_from_slice` asks the caller for a `memmove`,
-// which the exports did not need.
+// All bytes of another buffer of the same length. Kept a loop: with the library's `copy_from_slice` whoever links the exports has
+// to bring a `memmove` too.
 pub fn copy_bytes(from: &[u8], to: &mut [u8])
     requires { length from.now ≡ length to.old }
     ensures { to.new ≡ from.now }

@@ -1,6 +1,6 @@
 -- A law for each return of verdict.rt: a program that was read stands for its tree from the first byte of its body on.
 use mathlib.Core.Path.{◌≡◌, refl, sym, ap, ◌∙◌}
-use Prim.Native.Nat.{ℕ, ◌+◌, ◌*◌, ◌/◌, ◌%◌, ◌<◌, ◌≤◌}
+use Prim.Native.Nat.{ℕ, ◌+◌, ◌*◌, ◌<◌}
 use native.Mathlib.Omega.{arith}
 use mathlib.Core.List.{List, []}
 use native.Mathlib.Nat.{lt_of_lt_of_le}
@@ -19,7 +19,7 @@ use Rattle.model.proofs.Reading.{ProgramParts, program_parts}
 use Rattle.order.specs.Table.{Table, Knows}
 use Rattle.std.specs.Prelude.{⊤, Result, Ok, Err, IsErrAnd}
 use Rattle.program.specs.declared.refused.Refused.{Refused}
-use Rattle.program.specs.Answer.{reached, stopped, place_limit, refusal, end_of}
+use Rattle.program.specs.Answer.{reached, place_limit, refusal, end_of}
 use Rattle.program.specs.Refused.{tells, Answers}
 use Rattle.program.proofs.RefusedLaws.{number_kept, place_kept, answers_tell}
 use Rattle.gathered.specs.Words.{expr_roles}
