@@ -116,6 +116,17 @@ fn within<T: Send + 'static>(stack: usize, program: &[u8], call: fn(&[u8], &[u8]
     thread.spawn(move || call(&policy, &program)).unwrap().join().unwrap()
 }
 
+/// The number, and where the body of the first transaction starts and how long it is.
+fn first(policy: &[u8], program: &[u8]) -> (u32, (usize, usize)) {
+    proved_program::transaction(policy, program, 0)
+}
+
+/// The number and units of a run that begins with v0 = 1.
+fn run(policy: &[u8], program: &[u8]) -> (u32, u32) {
+    let (mut policy, mut memory) = (policy.to_vec(), [1, 0, 0, 0, 0, 0, 0, 0]);
+    proved_program::run(&mut policy, program, &mut memory, MOST_FUEL)
+}
+
 #[test]
 fn programs() {
     let body = (44, 30 * 3 + 49 + 30);
@@ -132,14 +143,12 @@ fn programs() {
             assert_eq!(number, 0, "{what}");
             let verdict = within(PROGRAM_STACK, &program, proved_program::verdict);
             assert_eq!(verdict, (0, 0), "{what}");
-            let first =
-                |policy: &[u8], program: &[u8]| proved_program::transaction(policy, program, 0);
             assert_eq!(within(PROGRAM_STACK, &program, first), (0, body), "{what}");
         }
     }
 }
 
-/// Each run begins with v0 = 1. A transaction that was rolled back begins again, asks its first query
+/// A transaction that was rolled back begins again, asks its first query
 /// and skips. The whiles end when v0, 16 times as much each turn, is 0 after 8.
 #[test]
 fn runs() {
@@ -154,10 +163,6 @@ fn runs() {
         ("quotients on the left", nested_queries(true, &quotients(true)), 1 + 30 + 1),
         ("quotients on the right", nested_queries(true, &quotients(false)), 1 + 30 + 1),
     ];
-    let run = |policy: &[u8], program: &[u8]| {
-        let (mut policy, mut memory) = (policy.to_vec(), [1, 0, 0, 0, 0, 0, 0, 0]);
-        proved_program::run(&mut policy, program, &mut memory, MOST_FUEL)
-    };
     for (what, program, units) in cases {
         for program in in_both_versions(&program) {
             assert_eq!(within(RUN_STACK, &program, run), (0, units), "{what}");
@@ -171,13 +176,8 @@ fn queries_in_second_branches() {
     for program in in_both_versions(&second_branches(&assignment())) {
         let verdict = within(DEEP_PROGRAM_STACK, &program, proved_program::verdict);
         assert_eq!(verdict, (0, 0));
-        let first = |policy: &[u8], program: &[u8]| proved_program::transaction(policy, program, 0);
         let body = (14, 30 * 4 + 49);
         assert_eq!(within(DEEP_PROGRAM_STACK, &program, first), (0, body));
-        let run = |policy: &[u8], program: &[u8]| {
-            let (mut policy, mut memory) = (policy.to_vec(), [1, 0, 0, 0, 0, 0, 0, 0]);
-            proved_program::run(&mut policy, program, &mut memory, MOST_FUEL)
-        };
         assert_eq!(within(DEEP_RUN_STACK, &program, run), (0, 1 + 1 + 1));
     }
 }
